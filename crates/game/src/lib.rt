@@ -1,0 +1,1 @@
+// The theory of games in normal form: definitions and theorems, no code.
