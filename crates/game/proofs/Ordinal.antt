@@ -11,7 +11,7 @@ use Rattle.game.specs.Finite.{first}
 use Rattle.game.specs.Game.{Game, Strategy, choice, Profile, Marks, whole}
 use Rattle.game.specs.Solution.{dominator, deviation}
 use Rattle.game.specs.Strikes.{Answer, refused, accepted, answer, after, runFrom, run}
-use Rattle.game.specs.Meaning.{Left, Others, Dominator, Gains, BestResponse, Equilibrium}
+use Rattle.game.specs.Meaning.{Has, Left, Others, Dominator, Gains, Best, Equilibrium}
 use Rattle.game.specs.Demand3.{Refused, no-player, not-left, no-dominator}
 use Rattle.game.specs.Ordinal.{Alike, SameMarks, SameSolutions}
 use Rattle.game.proofs.Finite.{le-or-lt}
@@ -27,7 +27,7 @@ Pay = ℕ → List ℕ → ℕ
 abbrev by : List ℕ → Pay → Game
 by cs f = record { counts = cs; pay = f }
 
--- by f among the marks m it is as by k among the marks n
+-- the payoffs f with the marks m, and k with n, compare and mark alike
 record Agree (cs : List ℕ) (f k : Pay) (m n : Marks) : Type 0 where
   compares : (p : ℕ) → p < length cs → (x y : List ℕ) → Profile cs x → Profile cs y → (f p x < f p y) ↔ (k p x < k p y)
   marks : SameMarks (by cs f) m n
@@ -53,26 +53,32 @@ module _ {cs : List ℕ} {f k : Pay} {m n : Marks} (a : Agree cs f k m n) where
     (d, λ x r o. a .compares p l _ _ (set-profile cs x r p s l j) (set-profile cs x r p t l u) .0 (b x r (others-from p x r o))),
   )
 
-  gains-to : (x : List ℕ) → Profile cs x → (c : Strategy) → Gains (by cs f) m x c → Gains (by cs k) n x c
-  gains-to x r c (h, b) =
-      let (l, j) = h .0 in
-      (left-to c h, a .compares (c .player) l _ _ r (set-profile cs x r (c .player) (c .number) l j) .0 b)
+  gains-to : (x : List ℕ) → Profile cs x → (c : Strategy) → Has (by cs f) c × Gains (by cs f) m x c → Has (by cs k) c × Gains (by cs k) n x c
+  gains-to x r c ((l, j), (i, b)) = (
+    (l, j),
+    (a .marks (c .player) (c .number) l j .0 i, a .compares (c .player) l _ _ r (set-profile cs x r (c .player) (c .number) l j) .0 b),
+  )
 
-  best-to : (p : ℕ) (x : List ℕ) → p < length cs → Profile cs x → (s : ℕ) → BestResponse (by cs f) m p x s → BestResponse (by cs k) n p x s
-  best-to p x l r s (j, h, b) = (
+  best-to : (p : ℕ) (x : List ℕ) → p < length cs → Profile cs x → (s : ℕ)
+      → (s < getD cs p 0) × Best (by cs f) m p x s → (s < getD cs p 0) × Best (by cs k) n p x s
+  best-to p x l r s (j, (h, b)) = (
     j,
-    a .marks p s l j .0 h,
-    λ t u i. at-most-to p l _ _ (set-profile cs x r p t l u) (set-profile cs x r p s l j) (b t u (a .marks p t l u .1 i)),
+    (
+      a .marks p s l j .0 h,
+      λ t u i. at-most-to p l _ _ (set-profile cs x r p t l u) (set-profile cs x r p s l j) (b t u (a .marks p t l u .1 i)),
+    ),
   )
 
-  equilibrium-to : (x : List ℕ) → Equilibrium (by cs f) m x → Equilibrium (by cs k) n x
-  equilibrium-to x (r, i, st) = (
+  equilibrium-to : (x : List ℕ) → Profile cs x × Equilibrium (by cs f) m x → Profile cs x × Equilibrium (by cs k) n x
+  equilibrium-to x (r, (i, st)) = (
     r,
-    λ p l. a .marks p (choice x p) l (r .fits p l) .0 (i p l),
-    λ p t l j h. at-most-to p l _ _ (set-profile cs x r p t l j) r (st p t l j (a .marks p t l j .1 h)),
+    (
+      λ p l. a .marks p (choice x p) l (r .fits p l) .0 (i p l),
+      λ p t l j h. at-most-to p l _ _ (set-profile cs x r p t l j) r (st p t l j (a .marks p t l j .1 h)),
+    ),
   )
 
--- what stands behind a `not` takes both directions
+-- where a meaning denies something, that goes the other way
 module _ {cs : List ℕ} {f k : Pay} {m n : Marks} (a : Agree cs f k m n) where
   refused-to : (c : Strategy) (e : ℕ) → Refused (by cs f) m c e → Refused (by cs k) n c e
   refused-to c e (no-player l) = no-player l

@@ -3,7 +3,7 @@
 use mathlib.Core.Path.{_≡_, refl, ap, fun-ext}
 use mathlib.Core.Bool.{_&&_}
 use mathlib.Core.List.{List, [], _∷_}
-use mathlib.Core.Logic.{_↔_, ⊎-elim, Iff·rfl, Iff·trans}
+use mathlib.Core.Logic.{_↔_, ⊎-elim, Iff·rfl}
 use mathlib.Core.Option.{none}
 use Prim.Native.Nat.{ℕ, _≤_, _<_}
 use native.Mathlib.Omega.{arith}
@@ -13,13 +13,10 @@ use lib.Seq.{set-getD, set-set}
 use Rattle.game.specs.Finite.{_∈_, below, filter, empty, first, Lists, First}
 use Rattle.game.specs.Game.{Game, players, count, Playable, Strategy, strategy, strategies, Sooner, choice, Profile, profiles, Earlier, Marks, whole}
 use Rattle.game.specs.Solution.{dominates, dominators, dominator, gains, deviations, deviation, bestResponse, bestResponses, equilibrium, equilibria}
-use Rattle.game.specs.Meaning.{Inside, Dominates, Dominator, Gains, BestResponse, Stable, Equilibrium}
+use Rattle.game.specs.Meaning.{Has, Inside, Dominates, Dominator, Gains, Best, Equilibrium}
 use Rattle.game.proofs.Finite.{and-T, imp-T, no-T, ltb-T, eqb-T, le-or-lt, below-mem, all-T, empty-T, filter-mem, greatest}
 use Rattle.game.proofs.Sorted.{lists-iff, lists-filter, first-law, below-law, less-asym}
 use Rattle.game.proofs.Game.{sooner-asym, strategies-law, profiles-law, whole-law, inside-law, others-law}
-
-flat : {A B C : Type 0} → (A × (B × C)) ↔ (A × B × C)
-flat = (λ h. (h .0, h .1 .0, h .1 .1), λ h. (h .0, (h .1, h .2)))
 
 -- what is not greater is at most
 at-most : (a b : ℕ) → (b < a → ⊥) → a ≤ b
@@ -35,7 +32,7 @@ module _ (g : Game) (m : Marks) where
   pub dominators-law : (p s : ℕ) → Lists _<_ (Dominator g m p s) (dominators g m p s)
   unfolding dominators
   dominators-law p s =
-      lists-iff (λ t. Iff·trans (simp (and-T, dominates-law) Iff·rfl) flat)
+      lists-iff (λ t. simp (and-T, dominates-law) (λ h. (h .0, h .1 .0, h .1 .1), λ h. (h .0, (h .1, h .2))))
       (lists-filter (λ t. m p t && dominates g m p t s) (below (count g p)) (below-law (count g p)))
 
   pub dominator-law : (p s : ℕ) → First _<_ (Dominator g m p s) (dominator g m p s)
@@ -44,36 +41,32 @@ module _ (g : Game) (m : Marks) where
 
   -- ---- gains
 
-  pub gains-law : (x : List ℕ) (c : Strategy)
-      → T (gains g m x c) ↔ (T (m (c .player) (c .number)) × (g .pay (c .player) x < g .pay (c .player) (set x (c .player) (c .number))))
+  pub gains-law : (x : List ℕ) (c : Strategy) → T (gains g m x c) ↔ Gains g m x c
   unfolding gains
   gains-law x c = simp (and-T, ltb-T) Iff·rfl
 
-  pub deviations-law : (x : List ℕ) → Lists Sooner (Gains g m x) (deviations g m x)
+  pub deviations-law : (x : List ℕ) → Lists Sooner (λ c. Has g c × Gains g m x c) (deviations g m x)
   unfolding deviations
-  deviations-law x =
-      lists-iff (λ c. simp gains-law (λ h. ((h .0, h .1 .0), h .1 .1), λ h. (h .0 .0, (h .0 .1, h .1))))
-      (lists-filter (gains g m x) (strategies g) (strategies-law g))
+  deviations-law x = lists-iff (λ c. simp gains-law Iff·rfl) (lists-filter (gains g m x) (strategies g) (strategies-law g))
 
   -- the lowest player that gains, with its lowest strategy that does
-  pub deviation-law : (x : List ℕ) → First Sooner (Gains g m x) (deviation g m x)
+  pub deviation-law : (x : List ℕ) → First Sooner (λ c. Has g c × Gains g m x c) (deviation g m x)
   unfolding deviation
   deviation-law x = first-law sooner-asym (deviations g m x) (deviations-law x)
 
   -- ---- equilibria
 
-  pub equilibrium-law : (x : List ℕ) → T (equilibrium g m x) ↔ (Inside g m x × Stable g m x)
+  pub equilibrium-law : (x : List ℕ) → T (equilibrium g m x) ↔ Equilibrium g m x
   unfolding equilibrium
   equilibrium-law x = simp (and-T, inside-law, empty-T, deviations-law x .members) (
-    λ h. (h .0, λ p t l f k. at-most _ _ (λ b. h .1 (strategy p t) (((l, f), k), b))),
-    λ h. (h .0, λ c k. let (((l, f), i), b) = k in omega (arith, h .1 (c .player) (c .number) l f i)),
+    λ h. (h .0, λ p t l f k. at-most _ _ (λ b. h .1 (strategy p t) ((l, f), (k, b)))),
+    λ h. (h .0, λ c k. let ((l, f), (i, b)) = k in omega (arith, h .1 (c .player) (c .number) l f i)),
   )
 
-  pub equilibria-law : Lists Earlier (Equilibrium g m) (equilibria g m)
+  pub equilibria-law : Lists Earlier (λ x. Profile (g .counts) x × Equilibrium g m x) (equilibria g m)
   unfolding equilibria
   equilibria-law =
-      lists-iff (λ x. Iff·trans (simp equilibrium-law Iff·rfl) flat)
-      (lists-filter (equilibrium g m) (profiles (g .counts)) (profiles-law (g .counts)))
+      lists-iff (λ x. simp equilibrium-law Iff·rfl) (lists-filter (equilibrium g m) (profiles (g .counts)) (profiles-law (g .counts)))
 
   -- an equilibrium is the absence of a deviation
   pub equilibrium-deviation : (x : List ℕ) → T (equilibrium g m x) ↔ (Inside g m x × (deviation g m x ≡ none))
@@ -88,14 +81,17 @@ module _ (g : Game) (m : Marks) where
 
   -- ---- best responses
 
-  pub bestResponses-law : (p : ℕ) (x : List ℕ) → Lists _<_ (BestResponse g m p x) (bestResponses g m p x)
-  unfolding bestResponse bestResponses
+  pub bestResponse-law : (p : ℕ) (x : List ℕ) (s : ℕ) → T (bestResponse g m p x s) ↔ Best g m p x s
+  unfolding bestResponse
+  bestResponse-law p x s = simp (and-T, all-T, below-mem, no-T, gains-law, set-set) (
+    λ h. (h .0, λ t l k. at-most _ _ (λ b. h .1 t l (k, b))),
+    λ h. (h .0, λ t l k. omega (arith, k .1, h .1 t l (k .0))),
+  )
+
+  pub bestResponses-law : (p : ℕ) (x : List ℕ) → Lists _<_ (λ s. (s < count g p) × Best g m p x s) (bestResponses g m p x)
+  unfolding bestResponses
   bestResponses-law p x =
-      lists-iff (λ s. simp (and-T, all-T, below-mem, no-T, gains-law, set-set) (
-        λ h. (h .0, h .1 .0, λ t l k. at-most _ _ (λ b. h .1 .1 t l (k, b))),
-        λ h. (h .0, (h .1, λ t l k. omega (arith, k .1, h .2 t l (k .0)))),
-      ))
-      (lists-filter (bestResponse g m p x) (below (count g p)) (below-law (count g p)))
+      lists-iff (λ s. simp bestResponse-law Iff·rfl) (lists-filter (bestResponse g m p x) (below (count g p)) (below-law (count g p)))
 
   -- player p's own place in x is not read
   pub best-place : (p : ℕ) (x : List ℕ) (u : ℕ) → bestResponses g m p (set x p u) ≡ bestResponses g m p x
@@ -108,10 +104,10 @@ module _ (g : Game) (m : Marks) where
   equilibrium-best x r = (
     λ h p l.
         let (i, st) = equilibrium-law x .0 h in
-        bestResponses-law p x .members (choice x p) .1 (r .fits p l, i p l, λ t f k. rw (set-getD x p 0) (st p t l f k)),
+        bestResponses-law p x .members (choice x p) .1 (r .fits p l, (i p l, λ t f k. rw (set-getD x p 0) (st p t l f k))),
     λ h.
-        let best : (p : ℕ) → p < players g → BestResponse g m p x (choice x p) = λ p l. bestResponses-law p x .members (choice x p) .0 (h p l) in
-        equilibrium-law x .1 (λ p l. best p l .1, λ p t l f k. rw (set-getD x p 0) at (best p l .2 t f k)),
+        let best : (p : ℕ) → p < players g → Best g m p x (choice x p) = λ p l. bestResponses-law p x .members (choice x p) .0 (h p l) .1 in
+        equilibrium-law x .1 (λ p l. best p l .0, λ p t l f k. rw (set-getD x p 0) at (best p l .1 t f k)),
   )
 
   -- whatever the others choose, a player with a marked strategy has a best response
@@ -119,7 +115,7 @@ module _ (g : Game) (m : Marks) where
   best-exists p x s l h =
       let (b, k, most) = greatest (λ t. g .pay p (set x p t)) (filter (m p) (below (count g p))) s (marked s .1 (l, h)) in
       let (f, i) = marked b .0 k in
-      (b, bestResponses-law p x .members b .1 (f, i, λ t l h. most t (marked t .1 (l, h))))
+      (b, bestResponses-law p x .members b .1 (f, (i, λ t l h. most t (marked t .1 (l, h)))))
     where
       marked : (t : ℕ) → (t ∈ filter (m p) (below (count g p))) ↔ ((t < count g p) × T (m p t))
       marked t = simp (filter-mem, below-mem) Iff·rfl

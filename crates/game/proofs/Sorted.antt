@@ -93,7 +93,7 @@ module _ {A : Type 0} {R : A → A → Type 0} where
           ⊎-elim (λ (e : y ≡ x). let q = rw e at r in asym x x q q) (λ k. asym y x r (l .sorted .0 y k)) (in-cons (l .members y .1 h)),
     )
 
--- where h passes what f does but for c, and each element stands once, it passes one less
+-- where the list has c once, and h differs from f only in that c fails it, one element less passes h than f
 pub filter-less : {A : Type 0} (f h : A → Bool) (c : A) (xs : List A) → Sorted (λ x y. x ≢ y) xs → c ∈ xs
     → T (f c) → (T (h c) → ⊥) → ((x : A) → x ≢ c → f x ≡ h x) → length (filter f xs) ≡ suc (length (filter h xs))
 filter-less f h c [] s k a b e = absurd (not-in-nil k)

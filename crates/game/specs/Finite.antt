@@ -6,7 +6,7 @@ use mathlib.Core.Option.{Option, none, some}
 use Prim.Native.Nat.{ℕ, zero, suc, _+_, _*_}
 
 infixr 25 _⇒_
--- b, where a holds
+-- a implies b
 abbrev pub _⇒_ : Bool → Bool → Bool
 true ⇒ b = b
 false ⇒ b = true
@@ -16,14 +16,17 @@ abbrev pub below : ℕ → List ℕ
 below zero = []
 below (suc n) = 0 ∷ map suc (below n)
 
+-- the sum of a list, 0 where it is empty
 abbrev pub sum : List ℕ → ℕ
 sum = foldr _+_ 0
 
+-- the product of a list, 1 where it is empty
 abbrev pub product : List ℕ → ℕ
 product = foldr _*_ 1
 
 module _ {A : Type 0} where
   infix 4 _∈_
+  -- x is an element of xs
   abbrev pub _∈_ : A → List A → Type 0
   x ∈ xs = List·Memᴰ x xs
 
@@ -37,10 +40,12 @@ module _ {A : Type 0} where
   filter f [] = []
   filter f (x ∷ xs) = let rest = filter f xs in cond (f x) (x ∷ rest) rest
 
+  -- whether there is no element
   abbrev pub empty : List A → Bool
   empty [] = true
   empty (x ∷ xs) = false
 
+  -- the first element, or none
   abbrev pub first : List A → Option A
   first [] = none
   first (x ∷ xs) = some x

@@ -1,4 +1,4 @@
--- A finite game in normal form: its strategies, its profiles, and marks on its strategies.
+-- A finite game in normal form: its strategies, its profiles in document 01's order ("The table"), and marks on its strategies.
 -- Players, and the strategies of each player, are numbered from 0. Assumes nothing.
 use mathlib.Core.Path.{_≡_, refl}
 use mathlib.Core.Bool.{Bool, not}
@@ -47,7 +47,7 @@ Sooner c d = (c .player < d .player) ⊎ ((c .player ≡ d .player) × (c .numbe
 
 -- ---- profiles
 
--- what player p chooses in x; `set x p s` is x with s for it
+-- what player p chooses in x; `set x p s` is x with s in p's place
 abbrev pub choice : List ℕ → ℕ → ℕ
 choice x p = getD x p 0
 
@@ -70,8 +70,9 @@ profiles-2-3 = refl
 abbrev pub Earlier : List ℕ → List ℕ → Type 0
 Earlier x y = (p : ℕ) × ((q : ℕ) → q < p → choice x q ≡ choice y q) × (choice x p < choice y p)
 
--- ---- marks: which strategies of each player are in play
+-- ---- marks
 
+-- Mark is document 01's term: a marked strategy survives, and one whose mark was taken is struck.
 abbrev pub Marks : Type 0
 Marks = ℕ → ℕ → Bool
 

@@ -1,5 +1,5 @@
--- Strict dominance, best responses and equilibria in pure strategies, among the marked strategies alone.
--- Those of the game itself are the case `whole g`. Assumes nothing.
+-- Document 01, "Best responses, dominance, equilibria": in pure strategies, and among the marked ones alone.
+-- Those of the game itself are the case `whole g`. A list x is meant to be a profile. Assumes nothing.
 use mathlib.Core.Bool.{Bool, not, _&&_}
 use mathlib.Core.List.{List}
 use mathlib.Core.Option.{Option}
@@ -24,7 +24,7 @@ module _ (g : Game) (m : Marks) where
   unfoldable pub dominator : ℕ → ℕ → Option ℕ
   dominator p s = first (dominators p s)
 
-  -- a player gains by its strategy c at x: c is marked, and the change of only that player's choice gives it a greater payoff
+  -- a player gains by strategy c at x: c is marked, and the change of only that player's own choice gives it a greater payoff
   unfoldable pub gains : List ℕ → Strategy → Bool
   gains x c = m (c .player) (c .number) && ltb (g .pay (c .player) x) (g .pay (c .player) (set x (c .player) (c .number)))
 
@@ -36,7 +36,8 @@ module _ (g : Game) (m : Marks) where
   unfoldable pub deviation : List ℕ → Option Strategy
   deviation x = first (deviations x)
 
-  -- s is a best response of player p to the others' choices in x: no other marked strategy's payoff exceeds its own. p's own place in x is not read
+  -- s is a best response of player p to the others' choices in x: s is marked, and no marked strategy of p has a payoff that exceeds
+  -- its own. p's own place in x is not read
   unfoldable pub bestResponse : ℕ → List ℕ → ℕ → Bool
   bestResponse p x s = m p s && all (λ t. not (gains (set x p s) (strategy p t))) (below (count g p))
 
@@ -44,7 +45,7 @@ module _ (g : Game) (m : Marks) where
   unfoldable pub bestResponses : ℕ → List ℕ → List ℕ
   bestResponses p x = filter (bestResponse p x) (below (count g p))
 
-  -- x is an equilibrium: every choice is marked, and no player gains
+  -- x is an equilibrium: every choice is marked, and no player's change of only its own choice gives that player a greater payoff
   unfoldable pub equilibrium : List ℕ → Bool
   equilibrium x = inside g m x && empty (deviations x)
 

@@ -1,5 +1,6 @@
 -- The plain machine of document 01, "Strikes": it sees the game and the list of calls alone. In the field's terms it is the iterated
--- elimination of strictly dominated strategies, one at each accepted call. A strike is that document's term. Assumes nothing.
+-- elimination of strictly dominated strategies, one at each accepted call. Strike and survivor are that document's terms: a strike is
+-- a call that names a player and a strategy, and the survivors are the strategies that are marked, or left. Assumes nothing.
 use mathlib.Core.Bool.{Bool, true, false, not, _&&_}
 use mathlib.Core.List.{List, [], _∷_}
 use mathlib.Core.Option.{Option, none, some}
@@ -13,33 +14,35 @@ pub data Answer : Type 0 where
   refused : ℕ → Answer
   accepted : ℕ → Answer
 
--- 8: player not below P. 14: strategy not below its count, or struck. 15: no survivor strictly dominates the strategy
-abbrev pub verdict : Bool → Bool → Option ℕ → Answer
-verdict false survives lowest = refused 8
-verdict true false lowest = refused 14
-verdict true true none = refused 15
-verdict true true (some t) = accepted t
+-- the rule, in document 01's order of refusals. 8: player not below P. 14: strategy not below its count, or struck. 15: no survivor
+-- strictly dominates the strategy
+abbrev pub ruling : Bool → Bool → Option ℕ → Answer
+ruling false survives lowest = refused 8
+ruling true false lowest = refused 14
+ruling true true none = refused 15
+ruling true true (some t) = accepted t
 
--- the answer to a call that names c, where the marked strategies are left
+-- the answer to a call that names c, among the survivors m
 unfoldable pub answer : Game → Marks → Strategy → Answer
 answer g m c =
-    verdict (ltb (c .player) (players g)) (ltb (c .number) (count g (c .player)) && m (c .player) (c .number))
+    ruling (ltb (c .player) (players g)) (ltb (c .number) (count g (c .player)) && m (c .player) (c .number))
     (dominator g m (c .player) (c .number))
 
 -- the marks without that of c
-unfoldable pub strike : Marks → Strategy → Marks
-strike m c p s = m p s && not (eqb p (c .player) && eqb s (c .number))
+unfoldable pub without : Marks → Strategy → Marks
+without m c p s = m p s && not (eqb p (c .player) && eqb s (c .number))
 
 -- the marks after a call that names c and got this answer
 abbrev pub after : Marks → Strategy → Answer → Marks
 after m c (refused e) = m
-after m c (accepted t) = strike m c
+after m c (accepted t) = without m c
 
--- the marks that a list of calls leaves, and the answer to each call
+-- what a list of calls does: the marks that it leaves, and the answer to each call
 pub record Outcome : Type 0 where
   pub marks : Marks
   pub answers : List Answer
 
+-- the calls from the marks m
 abbrev pub runFrom : Game → Marks → List Strategy → Outcome
 runFrom g m [] = record { marks = m; answers = [] }
 runFrom g m (c ∷ cs) =
