@@ -36,6 +36,10 @@ either false = inr (λ h. h)
 pub le-or-lt : (a b : ℕ) → (a ≤ b) ⊎ (b < a)
 le-or-lt a b = ⊎-elim (λ h. inl (leb→le a b h)) (λ n. inr (nleb→lt a b (not-T (leb a b) n))) (either (leb a b))
 
+-- what is not greater is at most
+pub at-most : (a b : ℕ) → (b < a → ⊥) → a ≤ b
+at-most a b n = ⊎-elim (λ h. h) (λ h. absurd (n h)) (le-or-lt a b)
+
 pub test-true : (a : Bool) → T a → a ≡ true
 test-true true h = refl
 test-true false h = absurd h

@@ -3,9 +3,9 @@
 use mathlib.Core.Path.{_≡_, refl, ap, fun-ext}
 use mathlib.Core.Bool.{_&&_}
 use mathlib.Core.List.{List, [], _∷_}
-use mathlib.Core.Logic.{_↔_, ⊎-elim, Iff·rfl}
+use mathlib.Core.Logic.{_↔_, Iff·rfl}
 use mathlib.Core.Option.{none}
-use Prim.Native.Nat.{ℕ, _≤_, _<_}
+use Prim.Native.Nat.{ℕ, _<_}
 use native.Mathlib.Omega.{arith}
 use lib.Dec.{T}
 use lib.ListN.{set}
@@ -14,13 +14,9 @@ use Rattle.game.specs.Finite.{_∈_, below, filter, empty, first, Lists,
 use Rattle.game.specs.Game.{Game, players, count, Playable, Strategy, strategy, strategies, Sooner, choice, Profile, profiles, Earlier, Marks, whole}
 use Rattle.game.specs.Solution.{dominates, dominators, dominator, gains, deviations, deviation, bestResponse, bestResponses, equilibrium, equilibria}
 use Rattle.game.specs.Meaning.{Has, Inside, Dominates, Dominator, Gains, Best, Equilibrium}
-use Rattle.game.proofs.Finite.{and-T, imp-T, no-T, ltb-T, eqb-T, le-or-lt, below-mem, all-T, empty-T, filter-mem, greatest}
+use Rattle.game.proofs.Finite.{and-T, imp-T, no-T, ltb-T, eqb-T, at-most, below-mem, all-T, empty-T, filter-mem, greatest}
 use Rattle.game.proofs.Sorted.{lists-iff, lists-filter, first-law, below-law, less-asym}
 use Rattle.game.proofs.Game.{sooner-asym, strategies-law, profiles-law, whole-law, inside-law, others-law}
-
--- what is not greater is at most
-at-most : (a b : ℕ) → (b < a → ⊥) → a ≤ b
-at-most a b n = ⊎-elim (λ h. h) (λ h. absurd (n h)) (le-or-lt a b)
 
 module _ (g : Game) (m : Marks) where
   -- ---- strict dominance

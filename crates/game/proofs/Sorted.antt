@@ -123,7 +123,7 @@ sorted-below (suc n) = (
 pub below-law : (n : ℕ) → Lists _<_ (λ i. i < n) (below n)
 below-law n = record { members = below-mem n; sorted = sorted-below n }
 
--- a lowest number is the only one
+-- what is known of the lowest number determines it
 pub lowest-none : (P : ℕ → Type 0) (o : Option ℕ) → First _<_ P o → ((i : ℕ) → P i → ⊥) → o ≡ none
 lowest-none P none h n = refl
 lowest-none P (some i) h n = absurd (n i (h .0))
