@@ -1,0 +1,32 @@
+-- What a caller knows of `unless` once it knows what an answer told. Assumes nothing.
+use mathlib.Core.Path.{_≡_, refl, sym, ap, _∙_}
+use mathlib.Core.Option.{none, some}
+use Prim.Native.Nat.{ℕ}
+use native.Mathlib.Omega.{arith}
+use Rattle.refusal.specs.Refusal.{Refusal, numberOf, _then_}
+use Rattle.refusal.specs.declared.NormalFormError.{NormalFormError}
+use Rattle.refusal.specs.Told.{Told, values, refused, unless}
+
+module _ {A : Type 0} where
+  -- values are no refusal
+  pub apart : (v : A) (n : ℕ) → values v ≡ refused n → ⊥
+  apart v n h = let z : _≡_ {A = ℕ} 0 1 = cc in omega arith
+
+  -- values were told: no refusal applies, and they are the values
+  pub told-values : (r : Refusal) (v w : A) → values w ≡ unless r v → (r ≡ none) × (w ≡ v)
+  told-values none v w h = (refl, cc)
+  told-values (some e) v w h = absurd (apart w (numberOf e) h)
+
+  -- a number was told: a refusal applies, and the number is that refusal's
+  pub told-refused : (r : Refusal) (v : A) (n : ℕ) → refused n ≡ unless r v → (e : NormalFormError) × (r ≡ some e) × (n ≡ numberOf e)
+  told-refused none v n h = absurd (apart v n (sym h))
+  told-refused (some e) v n h = (e, refl, cc)
+
+  module _ {B : Type 0} (r : Refusal) (v : A) (w : B) (n : ℕ) (h : refused n ≡ unless r v) where
+    -- so it is told whatever the values were to be,
+    pub refused-again : refused n ≡ unless r w
+    refused-again = let t = told-refused r v n h in ap (λ (m : ℕ). refused m) (t .2) ∙ sym (ap (λ (q : Refusal). unless q w) (t .1))
+
+    -- and whatever refusals were to follow
+    pub refused-first : (s : Refusal) → refused n ≡ unless (r then s) w
+    refused-first s = let t = told-refused r v n h in ap (λ (m : ℕ). refused m) (t .2) ∙ sym (ap (λ (q : Refusal). unless (q then s) w) (t .1))

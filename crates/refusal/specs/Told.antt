@@ -1,0 +1,27 @@
+-- What an answer tells: values, or a refusal's number alone. Every contract of the library speaks of answers through this type.
+-- Assumes nothing.
+use mathlib.Core.Option.{none, some}
+use Prim.Native.Nat.{ℕ}
+use Rattle.refusal.specs.Refusal.{Refusal, numberOf}
+use Rattle.refusal.specs.declared.NormalFormError.{NormalFormError}
+use Rattle.refusal.specs.declared.UnitResult.{UnitResult}
+use Rattle.refusal.specs.declared.UnitResult.the-variants.{Ok as ok, Err as err}
+use Rattle.refusal.specs.declared.UsizeResult.{UsizeResult}
+use Rattle.refusal.specs.declared.UsizeResult.the-variants.{Ok, Err}
+
+pub data Told (A : Type 0) : Type 0 where
+  values : A → Told A
+  refused : ℕ → Told A
+
+-- the values v, unless a refusal applies
+abbrev pub unless : {A : Type 0} → Refusal → A → Told A
+unless none v = values v
+unless (some e) v = refused (numberOf e)
+
+abbrev pub toldUnit : UnitResult → Told (Unit {0})
+toldUnit ok = values tt
+toldUnit (err e) = refused (numberOf e)
+
+abbrev pub toldUsize : UsizeResult → Told ℕ
+toldUsize (Ok n) = values n
+toldUsize (Err e) = refused (numberOf e)

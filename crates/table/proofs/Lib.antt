@@ -1,0 +1,8 @@
+-- The laws of this crate's definitions.
+pub mod Products
+pub mod Checks
+pub mod Space
+pub mod Offsets
+pub mod Step
+pub mod Table
+pub mod Computed

@@ -1,0 +1,119 @@
+-- `table::profile_payoffs` meets its contract: where the offset is told, the part from offset × P to P further lies within the payoffs.
+-- Assumes nothing.
+use mathlib.Core.Path.{_≡_, sym, ap, _∙_}
+use mathlib.Core.List.{List}
+use mathlib.Core.Option.{none}
+use Prim.Native.Nat.{ℕ, _+_, _*_, _-_, _≤_}
+use native.Mathlib.Omega.{arith}
+use borrow.Author.Needs.{needs}
+use lib.ListN.{length, take, drop}
+use lib.Ieee.{Float}
+use Rattle.refusal.specs.Refusal.{Refusal, _then_}
+use Rattle.refusal.specs.Told.{toldUsize}
+use Rattle.refusal.proofs.Refusal.{then-none}
+use Rattle.refusal.proofs.Told.{told-values, told-refused}
+use Rattle.table.specs.Limits.{maxCells}
+use Rattle.table.specs.Table.{offset, profilePart}
+use Rattle.table.specs.Checks.{tableRefusal, profileRefusal}
+use Rattle.table.specs.Meaning.{Table}
+use Rattle.table.specs.Answers.{partUnless}
+use Rattle.table.proofs.Checks.{table-law, profile-law}
+use Rattle.table.proofs.Table.{part-within}
+use Rattle.table.proofs.profile_payoffs.Statement.{statement}
+use Rattle.table.proofs.profile_payoffs.Tie as tie
+
+offset-requires : tie.Need-offset-requires
+offset-requires c κs = search needs
+
+enum-told : tie.Need-enum-told
+enum-told c = search needs
+
+sub-result : tie.Need-sub-result
+sub-result c = search needs
+
+part-result-start : tie.Need-part-result-start
+part-result-start c = search needs
+
+part-result-end : tie.Need-part-result-end
+part-result-end c = search needs
+
+enum-known-at : tie.Need-enum-known-at
+enum-known-at c = search needs
+
+-- the arm where the offset is told
+module _ (c : tie.After-known-told) where
+  abbrev counts : List ℕ
+  counts = c .before .before .before .before .before .before .before .args .counts .now
+
+  abbrev payoffs : List Float
+  payoffs = c .before .before .before .before .before .before .before .args .payoffs .now
+
+  abbrev profile : List ℕ
+  profile = c .before .before .before .before .before .before .before .args .profile .now
+
+  abbrev at : ℕ
+  at = c .before .at .given .0 .0
+
+  told : ((tableRefusal counts payoffs then profileRefusal counts profile) ≡ none) × (at ≡ offset counts profile)
+  told = told-values _ _ _ (sym (ap toldUsize (c .before .at .given .1)) ∙ c .before .before .before .offset .ensures)
+
+  within : (at * length counts + length counts ≤ length payoffs) × (length payoffs ≤ maxCells)
+  within =
+      let both = then-none (tableRefusal counts payoffs) (profileRefusal counts profile) .0 (told .0) in
+      let table : Table counts payoffs = table-law counts payoffs .0 (both .0) in
+      let end = part-within (profile-law counts profile .0 (both .1)) payoffs (table .full) in
+      (omega (arith, end, ap (λ (n : ℕ). n * length counts) (told .1)), omega (arith, table .full, table .shape .room))
+
+mul-start : tie.Need-mul-start
+mul-start c = omega (arith, within c)
+
+add-end : tie.Need-add-end
+add-end c = omega (arith, within c)
+
+mul-result : tie.Need-mul-result
+mul-result c = omega (arith, within c)
+
+sub-result-2 : tie.Need-sub-result-2
+sub-result-2 c = search needs
+
+part-result-start-2 : tie.Need-part-result-start-2
+part-result-start-2 c = search needs
+
+part-result-end-2 : tie.Need-part-result-end-2
+part-result-end-2 c = within c .0
+
+returns : tie.Need-returns
+returns c =
+    let a = c .before .before .before .before .before .before .before .args in
+    let t = told-refused (tableRefusal (a .counts .now) (a .payoffs .now) then profileRefusal (a .counts .now) (a .profile .now)) _ _
+    (sym (ap toldUsize (c .before .enum-told .given .1)) ∙ c .before .before .before .offset .ensures) in
+    rw (t .1)
+
+returns-2 : tie.Need-returns-2
+unfolding profilePart
+returns-2 c =
+    let k = c .before in
+    let p = length (counts k) in
+    let e : at k * p + p - at k * p ≡ p = omega arith in
+    ap (λ (n : ℕ). take n (drop (at k * p) (payoffs k))) e
+    ∙ ap (λ (n : ℕ). take p (drop (n * p) (payoffs k))) (told k .1)
+    ∙ sym (ap (λ (r : Refusal). partUnless r (profilePart (counts k) (payoffs k) (profile k))) (told k .0))
+
+pub profile-payoffs-spec : {M : Type 1} → statement M
+profile-payoffs-spec =
+    tie.close
+    (tie.spec
+    offset-requires
+    enum-told
+    sub-result
+    part-result-start
+    part-result-end
+    enum-known-at
+    mul-start
+    add-end
+    mul-result
+    sub-result-2
+    part-result-start-2
+    part-result-end-2
+    returns
+    returns-2)
