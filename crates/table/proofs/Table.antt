@@ -1,6 +1,7 @@
 -- The payoffs of one profile as a part of the table: they begin at offset × P, so the part's p-th is player p's payoff. Assumes nothing.
-use mathlib.Core.Path.{_≡_}
+use mathlib.Core.Path.{_≡_, ap}
 use mathlib.Core.List.{List}
+use mathlib.Core.Option.{none}
 use Prim.Native.Nat.{ℕ, _+_, _*_, _≤_, _<_}
 use native.Mathlib.Nat.{suc-mul, mul-le-mul-right}
 use native.Mathlib.Omega.{arith}
@@ -8,7 +9,16 @@ use lib.ListN.{length, getD, drop, length-drop}
 use lib.Seq.{length-take-le, getD-take, getD-drop}
 use lib.Ieee.{Float, nan}
 use Rattle.game.specs.Game.{Profile}
+use Rattle.refusal.specs.Refusal.{_then_}
+use Rattle.refusal.specs.Told.{values}
+use Rattle.refusal.proofs.Refusal.{then-none}
+use Rattle.refusal.proofs.Told.{told-values}
+use Rattle.table.specs.Limits.{maxCells}
 use Rattle.table.specs.Table.{cells, offset, payoffAt, profilePart}
+use Rattle.table.specs.Checks.{tableRefusal, profileRefusal}
+use Rattle.table.specs.Meaning.{Table}
+use Rattle.table.specs.Answers.{offsetAnswer}
+use Rattle.table.proofs.Checks.{table-law, profile-law}
 use Rattle.table.proofs.Offsets.{offset-below}
 
 -- The part's p-th payoff is player p's.
@@ -27,3 +37,23 @@ module _ {cs x : List ℕ} (r : Profile cs x) (payoffs : List Float) (whole : le
   unfolding profilePart
   part-length =
       length-take-le (length cs) (drop (offset cs x * length cs) payoffs) (rw length-drop (omega (arith, part-within)))
+
+-- a caller that was told an offset: no refusal applies, and the part of P payoffs at offset × P lies within the payoffs
+pub record PartTold (counts : List ℕ) (payoffs : List Float) (x : List ℕ) (n : ℕ) : Type 0 where
+  pub none-applies : (tableRefusal counts payoffs then profileRefusal counts x) ≡ none
+  pub is : n ≡ offset counts x
+  pub within : n * length counts + length counts ≤ length payoffs
+  pub room : length payoffs ≤ maxCells
+
+pub part-told : (counts : List ℕ) (payoffs : List Float) (x : List ℕ) (n : ℕ) → values n ≡ offsetAnswer counts payoffs x → PartTold counts payoffs x n
+part-told counts payoffs x n h =
+    let told = told-values (tableRefusal counts payoffs then profileRefusal counts x) (offset counts x) n h in
+    let both = then-none (tableRefusal counts payoffs) (profileRefusal counts x) .0 (told .0) in
+    let table : Table counts payoffs = table-law counts payoffs .0 (both .0) in
+    let end = part-within (profile-law counts x .0 (both .1)) payoffs (table .full) in
+    record {
+      none-applies = told .0;
+      is = told .1;
+      within = omega (arith, end, ap (λ (k : ℕ). k * length counts) (told .1));
+      room = omega (arith, table .full, table .shape .room);
+    }

@@ -2,23 +2,18 @@
 -- Assumes nothing.
 use mathlib.Core.Path.{_≡_, sym, ap, _∙_}
 use mathlib.Core.List.{List}
-use mathlib.Core.Option.{none}
-use Prim.Native.Nat.{ℕ, _+_, _*_, _-_, _≤_}
+use Prim.Native.Nat.{ℕ, _+_, _*_, _-_}
 use native.Mathlib.Omega.{arith}
 use borrow.Author.Needs.{needs}
 use lib.ListN.{length, take, drop}
 use lib.Ieee.{Float}
 use Rattle.refusal.specs.Refusal.{Refusal, _then_}
 use Rattle.refusal.specs.Told.{toldUsize}
-use Rattle.refusal.proofs.Refusal.{then-none}
-use Rattle.refusal.proofs.Told.{told-values, told-refused}
-use Rattle.table.specs.Limits.{maxCells}
-use Rattle.table.specs.Table.{offset, profilePart}
+use Rattle.refusal.proofs.Told.{told-refused}
+use Rattle.table.specs.Table.{profilePart}
 use Rattle.table.specs.Checks.{tableRefusal, profileRefusal}
-use Rattle.table.specs.Meaning.{Table}
 use Rattle.table.specs.Answers.{partUnless}
-use Rattle.table.proofs.Checks.{table-law, profile-law}
-use Rattle.table.proofs.Table.{part-within}
+use Rattle.table.proofs.Table.{PartTold, part-told}
 use Rattle.table.proofs.profile_payoffs.Statement.{statement}
 use Rattle.table.proofs.profile_payoffs.Tie as tie
 
@@ -54,24 +49,17 @@ module _ (c : tie.After-known-told) where
   abbrev at : ℕ
   at = c .before .at .given .0 .0
 
-  told : ((tableRefusal counts payoffs then profileRefusal counts profile) ≡ none) × (at ≡ offset counts profile)
-  told = told-values _ _ _ (sym (ap toldUsize (c .before .at .given .1)) ∙ c .before .before .before .offset .ensures)
-
-  within : (at * length counts + length counts ≤ length payoffs) × (length payoffs ≤ maxCells)
-  within =
-      let both = then-none (tableRefusal counts payoffs) (profileRefusal counts profile) .0 (told .0) in
-      let table : Table counts payoffs = table-law counts payoffs .0 (both .0) in
-      let end = part-within (profile-law counts profile .0 (both .1)) payoffs (table .full) in
-      (omega (arith, end, ap (λ (n : ℕ). n * length counts) (told .1)), omega (arith, table .full, table .shape .room))
+  told : PartTold counts payoffs profile at
+  told = part-told counts payoffs profile at (sym (ap toldUsize (c .before .at .given .1)) ∙ c .before .before .before .offset .ensures)
 
 mul-start : tie.Need-mul-start
-mul-start c = omega (arith, within c)
+mul-start c = omega (arith, told c)
 
 add-end : tie.Need-add-end
-add-end c = omega (arith, within c)
+add-end c = omega (arith, told c)
 
 mul-result : tie.Need-mul-result
-mul-result c = omega (arith, within c)
+mul-result c = omega (arith, told c)
 
 sub-result-2 : tie.Need-sub-result-2
 sub-result-2 c = search needs
@@ -80,7 +68,7 @@ part-result-start-2 : tie.Need-part-result-start-2
 part-result-start-2 c = search needs
 
 part-result-end-2 : tie.Need-part-result-end-2
-part-result-end-2 c = within c .0
+part-result-end-2 c = told c .within
 
 returns : tie.Need-returns
 returns c =
@@ -96,8 +84,8 @@ returns-2 c =
     let p = length (counts k) in
     let e : at k * p + p - at k * p ≡ p = omega arith in
     ap (λ (n : ℕ). take n (drop (at k * p) (payoffs k))) e
-    ∙ ap (λ (n : ℕ). take p (drop (n * p) (payoffs k))) (told k .1)
-    ∙ sym (ap (λ (r : Refusal). partUnless r (profilePart (counts k) (payoffs k) (profile k))) (told k .0))
+    ∙ ap (λ (n : ℕ). take p (drop (n * p) (payoffs k))) (told k .is)
+    ∙ sym (ap (λ (r : Refusal). partUnless r (profilePart (counts k) (payoffs k) (profile k))) (told k .none-applies))
 
 pub profile-payoffs-spec : {M : Type 1} → statement M
 profile-payoffs-spec =

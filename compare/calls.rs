@@ -1,0 +1,360 @@
+//! The comparison of every call.
+
+use crate::cases::{self, Random};
+use crate::document::{self, CELLS, PLAYERS, STRATEGIES};
+use crate::library::{self, Answer, Bits};
+use crate::rust::{self, Judged};
+use crate::steps;
+use crate::tally::{floats, numbers, Judge, Tally};
+
+/// Compares every call and prints a line for each.
+pub fn compare() {
+    let outside = [2, 3, 4, 5];
+    let (mut with_rust, mut with_document) = (0, 0);
+    let mut report = |tally: Tally, rust: &[u32], outside: &[u32]| {
+        tally.report(rust, outside);
+        let [rust, document] = tally.cases();
+        with_rust += rust;
+        with_document += document;
+    };
+    report(utilities(), &[0, 7], &[]);
+    report(finite(), &[0], &[]);
+    report(spaces(), &[0, 1, 3], &outside);
+    report(matrices(), &[0, 1, 3, 6, 7], &outside);
+    let calls = calls();
+    report(calls.payoff, &[0, 1, 3, 6, 7, 8, 11, 12], &outside);
+    report(calls.offset, &[0, 1, 3, 6, 7, 11, 12], &outside);
+    report(calls.profile_payoffs, &[0, 1, 3, 6, 7, 11, 12], &outside);
+    report(steps::steps(), &[0], &[0]);
+    println!("compare: {with_rust} cases with the Rust and {with_document} with document 01 alone, 0 differences");
+}
+
+fn utilities() -> Tally {
+    let mut tally = Tally::new("Utility::new");
+    let mut compare = |bits: u64| {
+        let value = f64::from_bits(bits);
+        let judge = match rust::utility(value) {
+            Ok(utility) => Answer::Accepted(Bits::of(utility.value())),
+            Err(refusal) => Answer::Refused(refusal),
+        };
+        let input = || floats("value", &[value]);
+        tally.compare(Judge::Rust, input, judge, library::utility_new(value));
+    };
+    // Both signs, every exponent, fractions around every edge.
+    for exponent in 0..1 << 12 {
+        for fraction in [
+            0,
+            1,
+            2,
+            (1 << 51) - 1,
+            1 << 51,
+            (1 << 51) + 1,
+            (1 << 52) - 1,
+        ] {
+            compare(exponent << 52 | fraction);
+        }
+    }
+    let mut random = Random(1);
+    cases::FINITE
+        .into_iter()
+        .chain(cases::NON_FINITE)
+        .for_each(&mut compare);
+    for _ in 0..100_000 {
+        compare(random.word());
+        compare(random.finite().to_bits());
+        compare(random.non_finite().to_bits());
+    }
+    tally
+}
+
+fn finite() -> Tally {
+    let mut tally = Tally::new("all_finite");
+    let mut compare = |payoffs: &[f64]| {
+        let judge = Answer::Accepted(payoffs.iter().all(|payoff| rust::utility(*payoff).is_ok()));
+        let input = || floats("payoffs", payoffs);
+        tally.compare(Judge::Rust, input, judge, library::all_finite(payoffs));
+    };
+    // Every length up to 64, each with every place of one value that isn't finite.
+    let mut random = Random(2);
+    for length in 0..=64 {
+        let mut payoffs: Vec<f64> = (0..length).map(|_| random.finite()).collect();
+        compare(&payoffs);
+        for place in 0..length {
+            for bits in cases::NON_FINITE {
+                let kept = std::mem::replace(&mut payoffs[place], f64::from_bits(bits));
+                compare(&payoffs);
+                payoffs[place] = kept;
+            }
+        }
+    }
+    for turn in 0..600 {
+        let length = match turn % 3 {
+            0 => CELLS + random.below(3),
+            1 => random.below(CELLS),
+            _ => random.below(2_000),
+        };
+        let mut payoffs: Vec<f64> = (0..length).map(|_| random.finite()).collect();
+        for _ in 0..(turn % 4).min(length) {
+            let place = random.below(length);
+            payoffs[place] = random.non_finite();
+        }
+        compare(&payoffs);
+    }
+    tally
+}
+
+fn spaces() -> Tally {
+    let mut tally = Tally::new("StrategySpace::from_counts");
+    let mut compare = |counts: &[usize]| {
+        let (by, judge) = if document::in_domain(counts) {
+            (Judge::Rust, rust::space(counts))
+        } else {
+            (Judge::Outside, Err(document::space_refusal(counts)))
+        };
+        let judge = match judge {
+            Ok(space) => Answer::Accepted(rust::space_of(&space)),
+            Err(refusal) => Answer::Refused(refusal),
+        };
+        let input = || numbers("counts", counts);
+        tally.compare(by, input, judge, library::from_counts(counts));
+    };
+    for length in 0..=3 {
+        cases::lists(&cases::EDGES, length).for_each(|counts| compare(&counts));
+    }
+    for length in 0..=PLAYERS {
+        cases::lists(&[0, 1, 2], length).for_each(|counts| compare(&counts));
+    }
+    for length in PLAYERS + 1..=PLAYERS + 2 {
+        cases::lists(&[0, 1], length).for_each(|counts| compare(&counts));
+    }
+    for shape in cases::large_shapes() {
+        cases::neighbours(&shape)
+            .iter()
+            .for_each(|counts| compare(counts));
+    }
+    let mut random = Random(3);
+    for _ in 0..30_000 {
+        compare(&random.counts());
+        let shape = random.shape(CELLS, STRATEGIES);
+        compare(&shape);
+        for counts in cases::neighbours(&shape) {
+            compare(&counts);
+        }
+    }
+    tally
+}
+
+fn matrices() -> Tally {
+    let mut tally = Tally::new("PayoffMatrix::new");
+    let mut random = Random(4);
+    for shape in cases::large_shapes() {
+        for counts in cases::neighbours(&shape) {
+            lengths(&mut tally, &mut random, &counts);
+        }
+        places(&mut tally, &mut random, &shape);
+    }
+    for turn in 0..4_000 {
+        let cells = if turn % 40 == 0 { CELLS } else { 64 };
+        let shape = random.shape(cells, STRATEGIES);
+        lengths(&mut tally, &mut random, &shape);
+        places(&mut tally, &mut random, &shape);
+        let counts = random.counts();
+        lengths(&mut tally, &mut random, &counts);
+    }
+    tally
+}
+
+/// Counts with as many payoffs as they have cells, one less, one more and none; all finite, and with one that isn't.
+fn lengths(tally: &mut Tally, random: &mut Random, counts: &[usize]) {
+    let cells = document::cells(counts).min(CELLS as u128) as usize;
+    let mut payoffs: Vec<f64> = (0..cells + 1).map(|_| random.finite()).collect();
+    for length in [cells, cells.saturating_sub(1), cells + 1, 0] {
+        matrix(tally, counts, &payoffs[..length]);
+        if length > 0 {
+            let place = random.below(length);
+            let kept = std::mem::replace(&mut payoffs[place], random.non_finite());
+            matrix(tally, counts, &payoffs[..length]);
+            payoffs[place] = kept;
+        }
+    }
+}
+
+/// A table with a value that isn't finite in the first place, the middle one, the last one.
+fn places(tally: &mut Tally, random: &mut Random, counts: &[usize]) {
+    let cells = document::cells(counts) as usize;
+    let mut payoffs: Vec<f64> = (0..cells).map(|_| random.finite()).collect();
+    for place in [0, cells / 2, cells - 1] {
+        let kept = std::mem::replace(&mut payoffs[place], random.non_finite());
+        matrix(tally, counts, &payoffs);
+        payoffs[place] = kept;
+    }
+}
+
+fn matrix(tally: &mut Tally, counts: &[usize], payoffs: &[f64]) {
+    let judged = Judged::new(counts, payoffs);
+    tally.compare(
+        judged.by,
+        || numbers("counts", counts) + &floats("payoffs", payoffs),
+        judged.space(),
+        library::payoff_matrix_new(counts, payoffs),
+    );
+}
+
+/// The calls that take a table and a profile.
+struct Calls {
+    payoff: Tally,
+    offset: Tally,
+    profile_payoffs: Tally,
+}
+
+impl Calls {
+    /// The three calls on one profile, `payoff` for each of the players.
+    fn compare(
+        &mut self,
+        judged: &Judged,
+        profile: &[usize],
+        players: impl IntoIterator<Item = usize>,
+    ) {
+        let (counts, payoffs) = (judged.counts, judged.payoffs);
+        let input = || {
+            numbers("counts", counts) + &floats("payoffs", payoffs) + &numbers("profile", profile)
+        };
+        for player in players {
+            self.payoff.compare(
+                judged.by,
+                || input() + &numbers("player", &[player]),
+                judged.payoff(profile, player),
+                library::payoff(counts, payoffs, profile, player),
+            );
+        }
+        self.offset.compare(
+            judged.by,
+            input,
+            judged.offset(profile),
+            library::offset(counts, payoffs, profile),
+        );
+        self.profile_payoffs.compare(
+            judged.by,
+            input,
+            judged.profile_payoffs(profile),
+            library::profile_payoffs(counts, payoffs, profile),
+        );
+    }
+}
+
+fn calls() -> Calls {
+    let mut calls = Calls {
+        payoff: Tally::new("PayoffMatrix::payoff"),
+        offset: Tally::new("offset"),
+        profile_payoffs: Tally::new("profile_payoffs"),
+    };
+    for shape in cases::small_shapes(8) {
+        every_table(&mut calls, &shape);
+    }
+    let mut random = Random(5);
+    for shape in cases::large_shapes() {
+        random_table(&mut calls, &mut random, &shape, 200);
+    }
+    for turn in 0..8_000 {
+        let cells = if turn % 80 == 0 { CELLS } else { 256 };
+        let shape = random.shape(cells, STRATEGIES);
+        random_table(&mut calls, &mut random, &shape, 20);
+        refused_table(&mut calls, &mut random, &shape);
+    }
+    for _ in 0..100_000 {
+        junk(&mut calls, &mut random);
+    }
+    calls
+}
+
+/// Every table of a shape over four values, with every profile and player, one choice or the player one past its
+/// count, one choice too few and one too many.
+fn every_table(calls: &mut Calls, counts: &[usize]) {
+    const VALUES: [f64; 4] = [-1.0, -0.0, 0.0, 1.0];
+    let players = counts.len();
+    let choices: Vec<usize> = (0..=*counts.iter().max().unwrap()).collect();
+    let mut profiles: Vec<Vec<usize>> = cases::lists(&choices, players)
+        .filter(|profile| {
+            let pairs = profile.iter().zip(counts);
+            let past = pairs.map(|(choice, count)| (choice + 1).saturating_sub(*count));
+            past.sum::<usize>() <= 1
+        })
+        .collect();
+    profiles.push(vec![0; players - 1]);
+    profiles.push(vec![0; players + 1]);
+    let cells = document::cells(counts) as usize;
+    let mut payoffs = vec![0.0; cells];
+    for number in 0..VALUES.len().pow(cells as u32) {
+        for (place, payoff) in payoffs.iter_mut().enumerate() {
+            *payoff = VALUES[number >> (2 * place) & 3];
+        }
+        let judged = Judged::new(counts, &payoffs);
+        for profile in &profiles {
+            calls.compare(&judged, profile, 0..=players);
+        }
+    }
+}
+
+/// Profiles and players of a random table, good and bad.
+fn random_table(calls: &mut Calls, random: &mut Random, counts: &[usize], turns: usize) {
+    let cells = document::cells(counts) as usize;
+    let payoffs: Vec<f64> = (0..cells).map(|_| random.finite()).collect();
+    let judged = Judged::new(counts, &payoffs);
+    let last: Vec<usize> = counts.iter().map(|count| count - 1).collect();
+    calls.compare(&judged, &vec![0; counts.len()], 0..=counts.len());
+    calls.compare(&judged, &last, 0..=counts.len());
+    for turn in 0..turns {
+        let profile = match turn % 4 {
+            0 => random.bad_profile(counts),
+            _ => random.profile(counts),
+        };
+        let player = match turn % 8 {
+            7 => random.number(),
+            _ => random.below(counts.len()),
+        };
+        calls.compare(&judged, &profile, [player]);
+    }
+}
+
+/// A table that is refused, and a profile and player, good and bad.
+fn refused_table(calls: &mut Calls, random: &mut Random, shape: &[usize]) {
+    let cells = document::cells(shape) as usize;
+    let mut payoffs: Vec<f64> = (0..cells).map(|_| random.finite()).collect();
+    let mut counts = shape.to_vec();
+    match random.below(4) {
+        0 => drop(payoffs.pop()),
+        1 => payoffs.push(0.0),
+        2 => {
+            let place = random.below(cells);
+            payoffs[place] = random.non_finite();
+        }
+        _ => {
+            let player = random.below(counts.len());
+            counts[player] = random.pick(&[0, STRATEGIES + 1, usize::MAX]);
+        }
+    }
+    let judged = Judged::new(&counts, &payoffs);
+    calls.compare(&judged, &random.profile(shape), [random.below(shape.len())]);
+    calls.compare(&judged, &random.bad_profile(shape), [random.number()]);
+}
+
+/// Anything for counts, payoffs, profile and player.
+fn junk(calls: &mut Calls, random: &mut Random) {
+    let counts = random.counts();
+    let length = match random.below(3) {
+        0 => random.below(40),
+        _ => document::cells(&counts).min(600) as usize,
+    };
+    let mut payoffs: Vec<f64> = (0..length).map(|_| random.finite()).collect();
+    if length > 0 && random.below(4) == 0 {
+        let place = random.below(length);
+        payoffs[place] = random.non_finite();
+    }
+    let places = match random.below(3) {
+        0 => random.below(PLAYERS + 3),
+        _ => counts.len(),
+    };
+    let profile: Vec<usize> = (0..places).map(|_| random.number()).collect();
+    let judged = Judged::new(&counts, &payoffs);
+    calls.compare(&judged, &profile, [random.number(), random.below(PLAYERS)]);
+}

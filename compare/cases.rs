@@ -1,0 +1,243 @@
+//! Where the cases come from: a generator with a fixed seed, values of every class, shapes around every limit.
+
+use crate::document::{CELLS, PLAYERS, STRATEGIES};
+
+/// Finite values by their bits: both zeros, subnormals, the smallest and the largest normal, ones and their neighbours.
+pub const FINITE: [u64; 16] = [
+    0x0000_0000_0000_0000,
+    0x8000_0000_0000_0000,
+    0x0000_0000_0000_0001,
+    0x8000_0000_0000_0001,
+    0x000f_ffff_ffff_ffff,
+    0x800f_ffff_ffff_ffff,
+    0x0010_0000_0000_0000,
+    0x8010_0000_0000_0000,
+    0x7fef_ffff_ffff_ffff,
+    0xffef_ffff_ffff_ffff,
+    0x3ff0_0000_0000_0000,
+    0xbff0_0000_0000_0000,
+    0x3fef_ffff_ffff_ffff,
+    0x3ff0_0000_0000_0001,
+    0x4330_0000_0000_0000,
+    0xc008_0000_0000_0000,
+];
+
+/// Both infinities, and NaNs of both kinds and several payloads.
+pub const NON_FINITE: [u64; 10] = [
+    0x7ff0_0000_0000_0000,
+    0xfff0_0000_0000_0000,
+    0x7ff8_0000_0000_0000,
+    0xfff8_0000_0000_0000,
+    0x7ff0_0000_0000_0001,
+    0xfff0_0000_0000_0001,
+    0x7fff_ffff_ffff_ffff,
+    0xffff_ffff_ffff_ffff,
+    0x7ff7_ffff_ffff_ffff,
+    0xfff8_0000_dead_beef,
+];
+
+/// splitmix64.
+pub struct Random(pub u64);
+
+impl Random {
+    pub fn word(&mut self) -> u64 {
+        self.0 = self.0.wrapping_add(0x9e37_79b9_7f4a_7c15);
+        let mut word = self.0;
+        word = (word ^ word >> 30).wrapping_mul(0xbf58_476d_1ce4_e5b9);
+        word = (word ^ word >> 27).wrapping_mul(0x94d0_49bb_1331_11eb);
+        word ^ word >> 31
+    }
+
+    pub fn below(&mut self, limit: usize) -> usize {
+        (self.word() % limit as u64) as usize
+    }
+
+    pub fn pick<T: Copy>(&mut self, values: &[T]) -> T {
+        values[self.below(values.len())]
+    }
+
+    pub fn finite(&mut self) -> f64 {
+        let word = self.word();
+        f64::from_bits(match self.below(4) {
+            0 => self.pick(&FINITE),
+            1 => (self.below(9) as f64 - 4.0).to_bits(),
+            2 => word & 0x800f_ffff_ffff_ffff,
+            _ if word >> 52 & 0x7ff == 0x7ff => word & !(1 << 62),
+            _ => word,
+        })
+    }
+
+    pub fn non_finite(&mut self) -> f64 {
+        f64::from_bits(match self.below(2) {
+            0 => self.pick(&NON_FINITE),
+            _ => self.word() | 0x7ff0_0000_0000_0000,
+        })
+    }
+
+    /// Counts that are accepted, of at most so many cells: from all of 1 to as large as there is room for.
+    pub fn shape(&mut self, cells: usize, strategies: usize) -> Vec<usize> {
+        let players = 1 + self.below(PLAYERS.min(cells));
+        let mut room = cells / players;
+        let mut counts = vec![1; players];
+        let first = self.below(players);
+        for step in 0..players {
+            let largest = room.min(strategies);
+            let count = match self.below(5) {
+                0 => 1,
+                1 => largest,
+                2 => 1 + self.below(largest),
+                _ => 1 + self.below(largest.min(4)),
+            };
+            counts[(first + step) % players] = count;
+            room /= count;
+        }
+        counts
+    }
+
+    /// Any counts: 0, small, around the limits, or any number, and up to two more of them than players allowed.
+    pub fn counts(&mut self) -> Vec<usize> {
+        let length = self.below(PLAYERS + 3);
+        let style = self.below(4);
+        (0..length)
+            .map(|_| match style {
+                0 => self.below(3),
+                1 => 1 + self.below(STRATEGIES + 1),
+                2 => self.number(),
+                _ => match self.below(12) {
+                    0 => self.number(),
+                    _ => 1 + self.below(3),
+                },
+            })
+            .collect()
+    }
+
+    /// A number that is 0, small, around a limit, or anything.
+    pub fn number(&mut self) -> usize {
+        match self.below(4) {
+            0 => self.below(4),
+            1 => self.pick(&EDGES),
+            2 => self.word() as usize >> self.below(64),
+            _ => self.word() as usize,
+        }
+    }
+
+    /// A profile of the counts.
+    pub fn profile(&mut self, counts: &[usize]) -> Vec<usize> {
+        counts
+            .iter()
+            .map(|count| match self.below(4) {
+                0 => 0,
+                1 => count - 1,
+                _ => self.below(*count),
+            })
+            .collect()
+    }
+
+    /// A profile to refuse: one choice too few or too many, a choice at or past its count, or anything.
+    pub fn bad_profile(&mut self, counts: &[usize]) -> Vec<usize> {
+        let mut profile = self.profile(counts);
+        match self.below(6) {
+            0 => drop(profile.pop()),
+            1 => profile.push(0),
+            2 => {
+                profile = (0..self.below(PLAYERS + 3))
+                    .map(|_| self.word() as usize >> self.below(64))
+                    .collect()
+            }
+            wild => {
+                let player = self.below(counts.len());
+                profile[player] = if wild == 3 {
+                    usize::MAX
+                } else {
+                    counts[player]
+                };
+            }
+        }
+        profile
+    }
+}
+
+/// Numbers around every limit.
+pub const EDGES: [usize; 18] = [
+    0,
+    1,
+    2,
+    3,
+    PLAYERS - 1,
+    PLAYERS,
+    PLAYERS + 1,
+    STRATEGIES / 2,
+    STRATEGIES - 1,
+    STRATEGIES,
+    STRATEGIES + 1,
+    2 * STRATEGIES,
+    CELLS - 1,
+    CELLS,
+    CELLS + 1,
+    1 << 32,
+    usize::MAX - 1,
+    usize::MAX,
+];
+
+/// Every list of so many of the values.
+pub fn lists(values: &[usize], length: usize) -> impl Iterator<Item = Vec<usize>> + '_ {
+    (0..values.len().pow(length as u32)).map(move |number| {
+        let mut rest = number;
+        (0..length)
+            .map(|_| {
+                let value = values[rest % values.len()];
+                rest /= values.len();
+                value
+            })
+            .collect()
+    })
+}
+
+/// Every accepted shape of at most so many cells.
+pub fn small_shapes(cells: usize) -> Vec<Vec<usize>> {
+    (1..=PLAYERS.min(cells))
+        .flat_map(|players| {
+            let values: Vec<usize> = (1..=(cells / players).min(STRATEGIES)).collect();
+            lists(&values, players)
+                .filter(|counts| players * counts.iter().product::<usize>() <= cells)
+                .collect::<Vec<_>>()
+        })
+        .collect()
+}
+
+/// Shapes at the limits: as many players, strategies and cells as can be.
+pub fn large_shapes() -> Vec<Vec<usize>> {
+    let mut shapes = vec![
+        vec![STRATEGIES],
+        vec![STRATEGIES; 2],
+        vec![1; PLAYERS],
+        vec![2; PLAYERS],
+        vec![8, 8, 16, 16],
+        vec![16, 16, 16],
+        vec![4; 6],
+    ];
+    for players in 1..=PLAYERS {
+        let mut room = CELLS / players;
+        let mut counts = vec![1; players];
+        for count in &mut counts {
+            *count = room.min(STRATEGIES);
+            room /= *count;
+        }
+        shapes.push(counts.iter().rev().copied().collect());
+        shapes.push(counts);
+    }
+    shapes
+}
+
+/// Each shape with one count one less and one more.
+pub fn neighbours(shape: &[usize]) -> Vec<Vec<usize>> {
+    let mut shapes = vec![shape.to_vec()];
+    for player in 0..shape.len() {
+        for count in [shape[player] - 1, shape[player] + 1] {
+            let mut changed = shape.to_vec();
+            changed[player] = count;
+            shapes.push(changed);
+        }
+    }
+    shapes
+}

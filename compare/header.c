@@ -1,0 +1,42 @@
+/* Every call of include/sigvanyor.h once from C, on document 01's table of counts 2 3 4: the header fits the archive. */
+#include "sigvanyor.h"
+#include <stdio.h>
+
+static int wrong = 0;
+
+static void expect(const char *call, bool holds) {
+    if (!holds) {
+        printf("header: %s does not answer as declared\n", call);
+        wrong = 1;
+    }
+}
+
+int main(void) {
+    const size_t counts[] = {2, 3, 4}, profile[] = {1, 2, 3};
+    double payoffs[72], utility = -1;
+    size_t players = 99, space[SIGVANYOR_MAX_PLAYERS] = {9, 9, 9, 9, 9, 9, 9, 9};
+    size_t offset = 99, first = 99, number = 99, step[SIGVANYOR_MAX_PLAYERS] = {0, 2, 3, 7};
+    for (int i = 0; i < 72; i++)
+        payoffs[i] = i;
+
+    expect("utility_new", sigvanyor_utility_new(1.0 / 0.0, &utility) == 7 && utility == -1);
+    expect("utility_new", sigvanyor_utility_new(2.5, &utility) == 0 && utility == 2.5);
+    expect("all_finite", sigvanyor_all_finite(payoffs, 72));
+    expect("from_counts", sigvanyor_from_counts(counts, 0, &players, space) == 1 && players == 99 && space[7] == 9);
+    expect("from_counts", sigvanyor_from_counts(counts, 3, &players, space) == 0 && players == 3);
+    expect("from_counts", space[0] == 2 && space[1] == 3 && space[2] == 4 && space[3] == 0 && space[7] == 0);
+    players = 99;
+    expect("payoff_matrix_new", sigvanyor_payoff_matrix_new(counts, 3, payoffs, 71, &players, space) == 6 && players == 99);
+    expect("payoff_matrix_new", sigvanyor_payoff_matrix_new(counts, 3, payoffs, 72, &players, space) == 0 && players == 3);
+    expect("offset", sigvanyor_offset(counts, 3, payoffs, 72, profile, 2, &offset) == 11 && offset == 99);
+    expect("offset", sigvanyor_offset(counts, 3, payoffs, 72, profile, 3, &offset) == 0 && offset == 23);
+    expect("payoff", sigvanyor_payoff(counts, 3, payoffs, 72, profile, 3, 3, &utility) == 8 && utility == 2.5);
+    expect("payoff", sigvanyor_payoff(counts, 3, payoffs, 72, profile, 3, 2, &utility) == 0 && utility == 71);
+    expect("profile_payoffs", sigvanyor_profile_payoffs(counts, 3, payoffs, 72, profile, 3, &first, &number) == 0);
+    expect("profile_payoffs", first == 69 && number == 3);
+    expect("advance_profile", sigvanyor_advance_profile(counts, 3, step));
+    expect("advance_profile", step[0] == 1 && step[1] == 0 && step[2] == 0 && step[3] == 7);
+    if (!wrong)
+        printf("header: every call answers as declared\n");
+    return wrong;
+}

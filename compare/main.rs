@@ -1,0 +1,40 @@
+//! The library beside the Rust that it was ported from: every call of both on the same inputs, by bits.
+//! Words: none compares, `bench` times, `record FILE` writes the Rust's answers to a sample of inputs.
+
+mod bench;
+mod calls;
+mod cases;
+mod document;
+mod library;
+mod record;
+mod rust;
+mod steps;
+mod tally;
+
+/// The reference as it stands, and below it the ways to its private functions.
+#[allow(dead_code)]
+mod reference {
+    include!(env!("REFERENCE"));
+
+    pub fn offset(space: &StrategySpace, profile: &[usize]) -> Option<usize> {
+        space.profile_offset(profile)
+    }
+
+    pub fn advance(space: &StrategySpace, profile: &mut [usize]) -> bool {
+        advance_profile(profile, space)
+    }
+}
+
+fn main() {
+    let words: Vec<String> = std::env::args().skip(1).collect();
+    let words: Vec<&str> = words.iter().map(String::as_str).collect();
+    match words[..] {
+        [] => calls::compare(),
+        ["bench"] => bench::bench(),
+        ["record", file] => record::record(file),
+        _ => {
+            eprintln!("usage: compare [bench | record FILE]");
+            std::process::exit(2);
+        }
+    }
+}

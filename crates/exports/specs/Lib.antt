@@ -1,0 +1,2 @@
+-- The definitions of this crate: what a C caller is told.
+pub mod Status

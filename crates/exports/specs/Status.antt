@@ -1,0 +1,32 @@
+-- How a call tells its answer to C: a status, and outputs that hold the values or, refused, what they held. Assumes nothing.
+use mathlib.Core.List.{List}
+use Prim.Native.Nat.{ℕ, _*_}
+use lib.ListN.{length}
+use lib.Ieee.{Float}
+use Rattle.refusal.specs.Refusal.{_then_}
+use Rattle.refusal.specs.Told.{Told, values, refused, unless}
+use Rattle.table.specs.Table.{offset}
+use Rattle.table.specs.Checks.{tableRefusal, profileRefusal}
+
+module _ {A : Type 0} where
+  -- 0, or the refusal's number
+  abbrev pub status : Told A → ℕ
+  status (values v) = 0
+  status (refused n) = n
+
+  -- what an output is left with: the value told, or what it held before
+  abbrev pub left : Told A → A → A
+  left (values v) old = v
+  left (refused n) old = old
+
+-- the value v in place of the values told
+abbrev pub instead : {A B : Type 0} → Told A → B → Told B
+instead (values a) v = values v
+instead (refused n) v = refused n
+
+-- a part of the caller's table goes to C as its first place and its length: the P payoffs at offset × P, where the offset call tells it
+abbrev pub partStart : List ℕ → List Float → List ℕ → Told ℕ
+partStart counts payoffs x = unless (tableRefusal counts payoffs then profileRefusal counts x) (offset counts x * length counts)
+
+abbrev pub partLength : List ℕ → List Float → List ℕ → Told ℕ
+partLength counts payoffs x = unless (tableRefusal counts payoffs then profileRefusal counts x) (length counts)

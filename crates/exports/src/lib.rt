@@ -1,0 +1,177 @@
+// The library's calls under C names: include/sigvanyor.h declares them and says what each does.
+// A call answers a status, 0 or the refusal's number, and writes its values through pointers; refused, it writes nothing.
+// A slice is a pointer and the number of its elements.
+use refusal::UnitResult;
+use refusal::UsizeResult;
+use table::MAX_PLAYERS;
+use table::SpaceResult;
+use table::StrategySpace;
+use utility::Utility;
+use utility::UtilityResult;
+ghost use mathlib.Core.Path.{_≡_};
+ghost use Rattle.game.specs.Finite.{all};
+ghost use Rattle.refusal.specs.Told.{toldUnit, toldUsize, unless};
+ghost use Rattle.utility.specs.Order.{finite};
+ghost use Rattle.utility.specs.Value.{utilityAnswer, toldUtility};
+ghost use Rattle.table.specs.Step.{step};
+ghost use Rattle.table.specs.Checks.{countsRefusal, tableRefusal};
+ghost use Rattle.table.specs.Answers.{spaceOf, offsetAnswer, payoffAnswer};
+ghost use Rattle.exports.specs.Status.{status, left, instead, partStart, partLength};
+
+// ---- an answer into its outputs
+
+fn usize_into(answer: UsizeResult, number: &mut usize) -> u32
+    ensures { λ r. ⌜ r ≡ status (toldUsize answer) ⌝ }
+    ensures { λ r. ⌜ now (number .exit) ≡ left (toldUsize answer) (now (number .entry)) ⌝ }
+{
+    match answer {
+        UsizeResult::Ok(n) => {
+            *number = n;
+            0
+        }
+        UsizeResult::Err(e) => e.number(),
+    }
+}
+
+fn utility_into(answer: UtilityResult, utility: &mut f64) -> u32
+    ensures { λ r. ⌜ r ≡ status (toldUtility answer) ⌝ }
+    ensures { λ r. ⌜ now (utility .exit) ≡ left (toldUtility answer) (now (utility .entry)) ⌝ }
+{
+    match answer {
+        UtilityResult::Ok(u) => {
+            *utility = u.value();
+            0
+        }
+        UtilityResult::Err(e) => e.number(),
+    }
+}
+
+fn space_into(
+    answer: SpaceResult,
+    players: &mut usize,
+    space_counts: &mut [usize; MAX_PLAYERS],
+) -> u32
+    ensures { λ r. ⌜ r ≡ status (toldUnit (answer .answer)) ⌝ }
+    ensures { λ r. ⌜ now (players .exit) ≡ left (instead (toldUnit (answer .answer)) (answer .space .players)) (now (players .entry)) ⌝ }
+    ensures { λ r. ⌜ now («space_counts» .exit) ≡ left (instead (toldUnit (answer .answer)) (answer .space .counts)) (now («space_counts» .entry)) ⌝ }
+{
+    let told = answer.answer;
+    match told {
+        UnitResult::Ok => {
+            let space = answer.space;
+            let counts = space.counts;
+            *players = space.players;
+            *space_counts = counts;
+            0
+        }
+        UnitResult::Err(e) => e.number(),
+    }
+}
+
+// ---- the calls
+
+#[no_mangle]
+pub extern "C" fn sigvanyor_utility_new(value: f64, utility: &mut f64) -> u32
+    ensures { λ r. ⌜ r ≡ status (utilityAnswer value) ⌝ }
+    ensures { λ r. ⌜ now (utility .exit) ≡ left (utilityAnswer value) (now (utility .entry)) ⌝ }
+{
+    utility_into(Utility::new(value), utility)
+}
+
+#[no_mangle]
+pub extern "C" fn sigvanyor_all_finite(values: &[f64]) -> bool
+    ensures { λ r. ⌜ r ≡ all finite (now (values .entry)) ⌝ }
+{
+    utility::all_finite(values)
+}
+
+#[no_mangle]
+pub extern "C" fn sigvanyor_from_counts(
+    counts: &[usize],
+    players: &mut usize,
+    space_counts: &mut [usize; MAX_PLAYERS],
+) -> u32
+    ensures { λ r. ⌜ r ≡ status (unless (countsRefusal (now (counts .entry))) (spaceOf (now (counts .entry)))) ⌝ }
+    ensures { λ r. ⌜ now (players .exit) ≡ left (unless (countsRefusal (now (counts .entry))) (spaceOf (now (counts .entry)) .players)) (now (players .entry)) ⌝ }
+    ensures { λ r. ⌜ now («space_counts» .exit) ≡ left (unless (countsRefusal (now (counts .entry))) (spaceOf (now (counts .entry)) .counts)) (now («space_counts» .entry)) ⌝ }
+{
+    space_into(StrategySpace::from_counts(counts), players, space_counts)
+}
+
+#[no_mangle]
+pub extern "C" fn sigvanyor_payoff_matrix_new(
+    counts: &[usize],
+    payoffs: &[f64],
+    players: &mut usize,
+    space_counts: &mut [usize; MAX_PLAYERS],
+) -> u32
+    ensures { λ r. ⌜ r ≡ status (unless (tableRefusal (now (counts .entry)) (now (payoffs .entry))) (spaceOf (now (counts .entry)))) ⌝ }
+    ensures { λ r. ⌜ now (players .exit) ≡ left (unless (tableRefusal (now (counts .entry)) (now (payoffs .entry))) (spaceOf (now (counts .entry)) .players)) (now (players .entry)) ⌝ }
+    ensures { λ r. ⌜ now («space_counts» .exit) ≡ left (unless (tableRefusal (now (counts .entry)) (now (payoffs .entry))) (spaceOf (now (counts .entry)) .counts)) (now («space_counts» .entry)) ⌝ }
+{
+    space_into(table::payoff_matrix(counts, payoffs), players, space_counts)
+}
+
+#[no_mangle]
+pub extern "C" fn sigvanyor_offset(
+    counts: &[usize],
+    payoffs: &[f64],
+    profile: &[usize],
+    offset: &mut usize,
+) -> u32
+    ensures { λ r. ⌜ r ≡ status (offsetAnswer (now (counts .entry)) (now (payoffs .entry)) (now (profile .entry))) ⌝ }
+    ensures { λ r. ⌜ now (offset .exit) ≡ left (offsetAnswer (now (counts .entry)) (now (payoffs .entry)) (now (profile .entry))) (now (offset .entry)) ⌝ }
+{
+    usize_into(table::offset(counts, payoffs, profile), offset)
+}
+
+#[no_mangle]
+pub extern "C" fn sigvanyor_payoff(
+    counts: &[usize],
+    payoffs: &[f64],
+    profile: &[usize],
+    player: usize,
+    utility: &mut f64,
+) -> u32
+    ensures { λ r. ⌜ r ≡ status (payoffAnswer (now (counts .entry)) (now (payoffs .entry)) (now (profile .entry)) player) ⌝ }
+    ensures { λ r. ⌜ now (utility .exit) ≡ left (payoffAnswer (now (counts .entry)) (now (payoffs .entry)) (now (profile .entry)) player) (now (utility .entry)) ⌝ }
+{
+    utility_into(table::payoff(counts, payoffs, profile, player), utility)
+}
+
+#[no_mangle]
+pub extern "C" fn sigvanyor_profile_payoffs(
+    counts: &[usize],
+    payoffs: &[f64],
+    profile: &[usize],
+    first: &mut usize,
+    number: &mut usize,
+) -> u32
+    ensures { λ r. ⌜ r ≡ status (offsetAnswer (now (counts .entry)) (now (payoffs .entry)) (now (profile .entry))) ⌝ }
+    ensures { λ r. ⌜ now (first .exit) ≡ left (partStart (now (counts .entry)) (now (payoffs .entry)) (now (profile .entry))) (now (first .entry)) ⌝ }
+    ensures { λ r. ⌜ now (number .exit) ≡ left (partLength (now (counts .entry)) (now (payoffs .entry)) (now (profile .entry))) (now (number .entry)) ⌝ }
+{
+    match table::offset(counts, payoffs, profile) {
+        UsizeResult::Ok(at) => {
+            *first = at * counts.len();
+            *number = counts.len();
+            0
+        }
+        UsizeResult::Err(e) => e.number(),
+    }
+}
+
+#[no_mangle]
+pub extern "C" fn sigvanyor_advance_profile(
+    counts: &[usize],
+    profile: &mut [usize; MAX_PLAYERS],
+) -> bool
+    ensures { λ r. ⌜ r ≡ step (now (counts .entry)) (now (profile .entry)) .more ⌝ }
+    ensures { λ r. ⌜ now (profile .exit) ≡ step (now (counts .entry)) (now (profile .entry)) .profile ⌝ }
+{
+    let now = *profile;
+    let stepped = table::advance_profile(counts, now);
+    let next = stepped.profile;
+    *profile = next;
+    stepped.more
+}
