@@ -4,6 +4,7 @@
 mod bench;
 mod calls;
 mod cases;
+mod differences;
 mod document;
 mod library;
 mod record;
@@ -29,7 +30,10 @@ fn main() {
     let words: Vec<String> = std::env::args().skip(1).collect();
     let words: Vec<&str> = words.iter().map(String::as_str).collect();
     match words[..] {
-        [] => calls::compare(),
+        [] => {
+            differences::differences();
+            calls::compare();
+        }
         ["bench"] => bench::bench(),
         ["record", file] => record::record(file),
         _ => {

@@ -1,0 +1,74 @@
+//! The intended differences of docs/DIFFERENCES.md, each on its smallest input: both sides answer as the page says.
+
+use crate::document::{PLAYERS, STRATEGIES};
+use crate::library::{self, Answer};
+use crate::reference;
+use crate::rust;
+
+/// Runs every listed difference and prints how many there are; one that does not stand ends the run.
+pub fn differences() {
+    let many = STRATEGIES + 1;
+    let listed = [
+        table("one player too many", &[1; PLAYERS + 1], PLAYERS + 1, 2, 0),
+        table("a count over the limit", &[many], many, 4, 0),
+        table("a count over the limit, then 0", &[many, 0], 0, 4, 3),
+        table("a 0 past the last player", &eight_and_a_zero(), 0, 2, 3),
+        table("too many cells", &[8, 8, 16, 17], 8 * 8 * 16 * 17 * 4, 5, 0),
+        table("counts whose product wraps", &[1 << 16; 4], 0, 4, 0),
+        both_six_and_seven(),
+        largest_choice(),
+    ];
+    for (name, stands) in listed {
+        if !stands {
+            println!("compare: the difference listed as `{name}` is another one");
+            std::process::exit(1);
+        }
+    }
+    println!(
+        "differences: {} listed, all as docs/DIFFERENCES.md says",
+        listed.len()
+    );
+}
+
+fn eight_and_a_zero() -> [usize; PLAYERS + 1] {
+    let mut counts = [1; PLAYERS + 1];
+    counts[PLAYERS] = 0;
+    counts
+}
+
+/// A table of zeros, with the status of the library and that of the Rust.
+fn table(
+    name: &'static str,
+    counts: &[usize],
+    length: usize,
+    here: u32,
+    there: u32,
+) -> (&'static str, bool) {
+    let payoffs = vec![0.0; length];
+    let library = library::payoff_matrix_new(counts, &payoffs) == Answer::Refused(here);
+    let rust = rust::table(counts, &payoffs).err().unwrap_or(0) == there;
+    (name, library && rust)
+}
+
+/// Counts 2 with the one payoff NaN: the number of payoffs is judged first here, the value first there.
+fn both_six_and_seven() -> (&'static str, bool) {
+    let library = library::payoff_matrix_new(&[2], &[f64::NAN]) == Answer::Refused(6);
+    let rust = rust::table(&[2], &[f64::NAN]).err() == Some(7);
+    ("both 6 and 7", library && rust)
+}
+
+/// Counts 2 2 with the choices 0 and the largest number: here the second goes to 0 and the first goes up; there the
+/// addition overflows, which in a release build gives 0 and a next profile.
+fn largest_choice() -> (&'static str, bool) {
+    let mut lent = [0; PLAYERS];
+    lent[1] = usize::MAX;
+    let mut stepped = [0; PLAYERS];
+    stepped[0] = 1;
+    let library = library::advance_profile(&[2, 2], &lent) == Answer::Accepted((true, stepped));
+    let space = rust::space(&[2, 2]).unwrap();
+    let more = reference::advance(&space, &mut lent[..2]);
+    (
+        "the largest number as a choice",
+        library && more && lent[..2] == [0, 0],
+    )
+}
