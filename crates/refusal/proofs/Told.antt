@@ -5,7 +5,7 @@ use Prim.Native.Nat.{ℕ}
 use native.Mathlib.Omega.{arith}
 use Rattle.refusal.specs.Refusal.{Refusal, numberOf, _then_}
 use Rattle.refusal.specs.declared.NormalFormError.{NormalFormError}
-use Rattle.refusal.specs.Told.{Told, values, refused, unless}
+use Rattle.refusal.specs.Told.{values, refused, unless}
 
 module _ {A : Type 0} where
   -- values are no refusal

@@ -3,7 +3,6 @@
 use mathlib.Core.Option.{none, some}
 use Prim.Native.Nat.{ℕ}
 use Rattle.refusal.specs.Refusal.{Refusal, numberOf}
-use Rattle.refusal.specs.declared.NormalFormError.{NormalFormError}
 use Rattle.refusal.specs.declared.UnitResult.{UnitResult}
 use Rattle.refusal.specs.declared.UnitResult.the-variants.{Ok as ok, Err as err}
 use Rattle.refusal.specs.declared.UsizeResult.{UsizeResult}

@@ -1,8 +1,8 @@
 -- Which counts are refused, and with which refusal: each case that a walk over the counts can meet, and `countsRefusal` in quantifiers.
 -- Assumes nothing.
-use mathlib.Core.Path.{_≡_, refl, sym, ap, _∙_}
+use mathlib.Core.Path.{_≡_}
 use mathlib.Core.List.{List}
-use mathlib.Core.Logic.{_↔_, inl, inr}
+use mathlib.Core.Logic.{_↔_}
 use mathlib.Core.Option.{none, some}
 use Prim.Native.Nat.{ℕ, _<_, _≤_}
 use native.Mathlib.Omega.{arith}
@@ -13,10 +13,10 @@ use lib.ListN.{length, getD}
 use lib.Ieee.{Float, nan}
 use Rattle.game.specs.Finite.{all, below}
 use Rattle.game.specs.Game.{choice, Profile}
-use Rattle.refusal.specs.Refusal.{Refusal, when, _then_, each}
+use Rattle.refusal.specs.Refusal.{when, _then_, each}
 use Rattle.refusal.specs.declared.NormalFormError.{NormalFormError}
 use Rattle.refusal.specs.declared.NormalFormError.the-variants.{NoPlayers, TooManyPlayers, NoStrategies, TooManyStrategies, TooManyCells, PayoffCount, NonFiniteUtility, InvalidPlayer, ProfileCount, InvalidStrategy}
-use Rattle.refusal.proofs.Refusal.{when-none, then-none, then-some, each-none, each-some, none-each}
+use Rattle.refusal.proofs.Refusal.{when-none, then-none, each-none, each-some, none-each}
 use Rattle.utility.specs.Order.{finite}
 use Rattle.utility.proofs.All.{all-at, at-all}
 use Rattle.table.specs.Limits.{maxPlayers, maxStrategies, maxCells}

@@ -5,4 +5,5 @@ pub mod Space
 pub mod Offsets
 pub mod Step
 pub mod Table
+pub mod Game
 pub mod Computed

@@ -1,5 +1,5 @@
 -- Document 01, "Refusal table": which refusal of the table's own calls applies, in its order. Assumes nothing.
-use mathlib.Core.Bool.{Bool, not}
+use mathlib.Core.Bool.{not}
 use mathlib.Core.List.{List}
 use Prim.Native.Nat.{ℕ}
 use lib.Dec.{ltb, eqb}

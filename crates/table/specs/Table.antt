@@ -1,9 +1,7 @@
 -- Document 01, "The table": a table is its players' counts and its payoffs, and P is the number of counts. Profiles are those of `game`.
 -- Assumes nothing.
-use mathlib.Core.Bool.{Bool, true, false, cond}
 use mathlib.Core.List.{List, [], _∷_}
 use Prim.Native.Nat.{ℕ, suc, _+_, _*_}
-use lib.Dec.{ltb}
 use lib.ListN.{length, getD, take, drop}
 use lib.Ieee.{Float, nan}
 use Rattle.game.specs.Finite.{product}

@@ -1,14 +1,10 @@
 -- `table::offset` meets its contract: a refusal of the table comes first, and else `profile_offset` answers. Assumes nothing.
 use mathlib.Core.Path.{_≡_, sym, ap, _∙_}
 use mathlib.Core.Option.{none}
-use Prim.Native.Nat.{ℕ}
 use borrow.Author.Needs.{needs}
-use Rattle.refusal.specs.Refusal.{_then_}
-use Rattle.refusal.specs.Told.{toldUsize, unless}
-use Rattle.refusal.proofs.Refusal.{then-none}
+use Rattle.refusal.specs.Told.{toldUsize}
 use Rattle.refusal.proofs.Told.{told-values, refused-first}
-use Rattle.table.specs.Table.{offset}
-use Rattle.table.specs.Checks.{countsRefusal, tableRefusal, profileRefusal}
+use Rattle.table.specs.Checks.{tableRefusal}
 use Rattle.table.proofs.Checks.{table-counts}
 use Rattle.table.proofs.offset.Statement.{statement}
 use Rattle.table.proofs.offset.Tie as tie

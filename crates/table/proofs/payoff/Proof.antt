@@ -1,7 +1,6 @@
 -- `table::payoff` meets its contract: the refusals of the table, the player and the profile come in this order, and else the cell is read,
 -- which lies within the payoffs and holds a finite value. Assumes nothing.
 use mathlib.Core.Path.{_≡_, sym, ap, _∙_}
-use mathlib.Core.Bool.{false}
 use mathlib.Core.List.{List}
 use mathlib.Core.Option.{none}
 use Prim.Native.Nat.{ℕ, _+_, _*_, _<_, _≤_}
@@ -9,13 +8,12 @@ use native.Mathlib.Omega.{arith}
 use borrow.Author.Needs.{needs}
 use lib.ListN.{length, getD}
 use lib.Ieee.{Float, nan}
-use Rattle.game.specs.Game.{Profile}
 use Rattle.refusal.specs.Told.{values, toldUsize}
 use Rattle.refusal.proofs.Told.{told-values, refused-again, refused-first}
 use Rattle.utility.proofs.Made.{finite-told}
 use Rattle.table.specs.Limits.{maxCells}
-use Rattle.table.specs.Table.{offset, cells, cell, payoffAt}
-use Rattle.table.specs.Checks.{countsRefusal, tableRefusal, playerRefusal, profileRefusal}
+use Rattle.table.specs.Table.{offset, cell, payoffAt}
+use Rattle.table.specs.Checks.{tableRefusal, profileRefusal}
 use Rattle.table.specs.Meaning.{Table}
 use Rattle.table.proofs.Checks.{table-counts, table-law, player-law, no-player, profile-law}
 use Rattle.table.proofs.Offsets.{cell-below}

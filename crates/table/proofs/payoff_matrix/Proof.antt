@@ -1,5 +1,5 @@
 -- `table::payoff_matrix` meets its contract, by what the check told. Assumes nothing.
-use mathlib.Core.Path.{_≡_, ap, _∙_}
+use mathlib.Core.Path.{ap, _∙_}
 use borrow.Author.Needs.{needs}
 use Rattle.refusal.specs.Told.{toldUnit}
 use Rattle.table.specs.Checks.{tableRefusal}

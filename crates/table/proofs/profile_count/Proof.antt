@@ -1,13 +1,13 @@
 -- `table::profile_count` meets its contract. The invariant: the product so far times that of the counts from p on is that of all, and no
 -- count before p is refused. Assumes nothing.
-use mathlib.Core.Path.{_≡_, refl, sym, ap, _∙_}
+use mathlib.Core.Path.{_≡_}
 use mathlib.Core.Option.{none}
-use Prim.Native.Nat.{ℕ, suc, _+_, _*_, _-_, _^_, _<_, _≤_}
+use Prim.Native.Nat.{ℕ, _*_, _-_, _^_, _<_, _≤_}
 use native.Mathlib.Omega.{arith}
 use borrow.Author.Count.{below-more}
 use lib.ListN.{length, getD, drop}
 use Rattle.game.specs.Finite.{product}
-use Rattle.table.specs.Limits.{maxPlayers, maxStrategies}
+use Rattle.table.specs.Limits.{maxStrategies}
 use Rattle.table.specs.Checks.{countRefusal}
 use Rattle.table.proofs.Checks.{count-zero, count-over, count-fits, no-players, many-players, bad-count, many-cells, counts-fit}
 use Rattle.table.proofs.Products.{product-more, product-end, power-more, power-cap}

@@ -1,6 +1,6 @@
 -- `table::profile_offset` meets its contract. The invariant: the offset of what is left, from `at` on, is that of the profile; `at` is below
 -- the product of the counts before p; and the choices before p are below their counts. Assumes nothing.
-use mathlib.Core.Path.{_≡_, refl, sym, ap, _∙_}
+use mathlib.Core.Path.{_≡_, refl, sym, _∙_}
 use Prim.Native.Nat.{ℕ, _+_, _*_, _-_, _<_, _≤_}
 use native.Mathlib.Nat.{le-mul-of-pos-right}
 use native.Mathlib.Omega.{arith}

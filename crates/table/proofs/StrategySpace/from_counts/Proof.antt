@@ -1,5 +1,5 @@
 -- `table::StrategySpace::from_counts` meets its contract, by what the check told. Assumes nothing.
-use mathlib.Core.Path.{_≡_, ap, _∙_}
+use mathlib.Core.Path.{ap, _∙_}
 use borrow.Author.Needs.{needs}
 use Rattle.refusal.specs.Told.{toldUnit}
 use Rattle.table.specs.Checks.{countsRefusal}
