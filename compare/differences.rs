@@ -15,6 +15,7 @@ pub fn differences() {
         table("a 0 past the last player", &eight_and_a_zero(), 0, 2, 3),
         table("too many cells", &[8, 8, 16, 17], 8 * 8 * 16 * 17 * 4, 5, 0),
         table("counts whose product wraps", &[1 << 16; 4], 0, 4, 0),
+        wrapped_listing(),
         both_six_and_seven(),
         largest_choice(),
     ];
@@ -48,6 +49,16 @@ fn table(
     let library = library::payoff_matrix_new(counts, &payoffs) == Answer::Refused(here);
     let rust = rust::table(counts, &payoffs).err().unwrap_or(0) == there;
     (name, library && rust)
+}
+
+/// The equilibria of the table that the Rust accepted because the product wrapped: the listing panics.
+fn wrapped_listing() -> (&'static str, bool) {
+    let table = rust::table(&[1 << 16; 4], &[]).unwrap();
+    let hook = std::panic::take_hook();
+    std::panic::set_hook(Box::new(|_| ()));
+    let listed = std::panic::catch_unwind(|| reference::PureNashSolver::equilibria(&table).len());
+    std::panic::set_hook(hook);
+    ("the listing of such counts", listed.is_err())
 }
 
 /// Counts 2 with the one payoff NaN: the number of payoffs is judged first here, the value first there.

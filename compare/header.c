@@ -1,4 +1,5 @@
-/* Every call of include/sigvanyor.h once from C, on document 01's table of counts 2 3 4: the header fits the archive. */
+/* Every call of include/sigvanyor.h from C, on document 01's table of counts 2 3 4, and the header's limits: the header fits the
+ * archive. */
 #include "sigvanyor.h"
 #include <stdio.h>
 
@@ -9,6 +10,23 @@ static void expect(const char *call, bool holds) {
         printf("header: %s does not answer as declared\n", call);
         wrong = 1;
     }
+}
+
+/* The limits are the library's: accepted up to each, refused one above. */
+static void limits(void) {
+    size_t ones[SIGVANYOR_MAX_PLAYERS + 1], players, space[SIGVANYOR_MAX_PLAYERS];
+    size_t strategies = SIGVANYOR_MAX_STRATEGIES, cells[] = {8, 8, 16, 16};
+    for (int i = 0; i <= SIGVANYOR_MAX_PLAYERS; i++)
+        ones[i] = 1;
+    expect("MAX_PLAYERS", sigvanyor_from_counts(ones, SIGVANYOR_MAX_PLAYERS, &players, space) == 0);
+    expect("MAX_PLAYERS", sigvanyor_from_counts(ones, SIGVANYOR_MAX_PLAYERS + 1, &players, space) == 2);
+    expect("MAX_STRATEGIES", sigvanyor_from_counts(&strategies, 1, &players, space) == 0);
+    strategies++;
+    expect("MAX_STRATEGIES", sigvanyor_from_counts(&strategies, 1, &players, space) == 4);
+    expect("MAX_CELLS", 8 * 8 * 16 * 16 * 4 == SIGVANYOR_MAX_CELLS);
+    expect("MAX_CELLS", sigvanyor_from_counts(cells, 4, &players, space) == 0);
+    cells[3]++;
+    expect("MAX_CELLS", sigvanyor_from_counts(cells, 4, &players, space) == 5);
 }
 
 int main(void) {
@@ -36,6 +54,7 @@ int main(void) {
     expect("profile_payoffs", first == 69 && number == 3);
     expect("advance_profile", sigvanyor_advance_profile(counts, 3, step));
     expect("advance_profile", step[0] == 1 && step[1] == 0 && step[2] == 0 && step[3] == 7);
+    limits();
     if (!wrong)
         printf("header: every call answers as declared\n");
     return wrong;

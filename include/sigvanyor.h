@@ -1,4 +1,5 @@
-/* Sigvanyor: games in normal form. Link with libexports.a, which `rt staticlib exports` makes.
+/* Sigvanyor: games in normal form. `rt staticlib exports` makes the archive to link with, target/staticlib/libexports.a. It is for
+ * x86-64, where size_t has 64 bits.
  *
  * A table is two slices: `counts`, how many strategies each of the P players has, and `payoffs`, P for each profile. P is the
  * number of counts. Profiles stand in lexicographic order, the last player's choice running fastest.
@@ -6,16 +7,18 @@
  * A call that returns uint32_t returns a status: 0, or the number of a refusal, the first that applies in this order:
  *    1  no players                      2  more than SIGVANYOR_MAX_PLAYERS players
  *    3  a player has no strategies      4  a player has more than SIGVANYOR_MAX_STRATEGIES (3 and 4 player by player)
- *    5  more than SIGVANYOR_MAX_CELLS payoffs in all
- *    6  the number of payoffs is not profiles x P
+ *    5  profiles x P is more than SIGVANYOR_MAX_CELLS
+ *    6  the number of payoffs given is not profiles x P
  *    7  a payoff is NaN or infinite
  *    8  player not below P
  *   11  the number of choices is not P
  *   12  a choice is not below its player's count
  * Values come through the pointers at the end of a call's parameters. A refused call writes nothing.
  *
- * Any numbers and lengths may be handed in. A slice is a pointer and the number of its elements; a pointer is not null, also where
- * its slice is empty, and what it points to is not written by others during the call. Outputs do not overlap anything else.
+ * Any numbers and lengths may be handed in. A slice is a pointer and the number of its elements. A pointer is aligned for its type,
+ * is not null, also where its slice is empty, and points to that many elements, which nobody else writes during the call; an output
+ * overlaps nothing else. No call keeps a pointer, allocates or has a state of its own, so any thread may call at any time. The
+ * floating-point environment is the default one: a NaN or an infinity among the payoffs may raise its flags.
  */
 #ifndef SIGVANYOR_H
 #define SIGVANYOR_H
@@ -41,12 +44,13 @@ uint32_t sigvanyor_utility_new(double value, double *utility);
 /* Whether every value is finite. */
 bool sigvanyor_all_finite(const double *values, size_t values_len);
 
-/* P into `players`, and the counts into the SIGVANYOR_MAX_PLAYERS places of `space_counts`, 0 from P on; or 1 to 5. */
-uint32_t sigvanyor_from_counts(const size_t *counts, size_t counts_len, size_t *players, size_t *space_counts);
+/* P into `players`, and the counts into `space_counts`, 0 from place P on; or 1 to 5. */
+uint32_t sigvanyor_from_counts(const size_t *counts, size_t counts_len, size_t *players,
+                               size_t space_counts[SIGVANYOR_MAX_PLAYERS]);
 
 /* The same for a table; or 1 to 7. */
 uint32_t sigvanyor_payoff_matrix_new(const size_t *counts, size_t counts_len, const double *payoffs, size_t payoffs_len,
-                                     size_t *players, size_t *space_counts);
+                                     size_t *players, size_t space_counts[SIGVANYOR_MAX_PLAYERS]);
 
 /* The place of a profile among the profiles, from 0, into `offset`; or 1 to 7, 11, 12. */
 uint32_t sigvanyor_offset(const size_t *counts, size_t counts_len, const double *payoffs, size_t payoffs_len,
@@ -60,10 +64,10 @@ uint32_t sigvanyor_payoff(const size_t *counts, size_t counts_len, const double 
 uint32_t sigvanyor_profile_payoffs(const size_t *counts, size_t counts_len, const double *payoffs, size_t payoffs_len,
                                    const size_t *profile, size_t profile_len, size_t *first, size_t *number);
 
-/* Steps the SIGVANYOR_MAX_PLAYERS choices of `profile` to the next profile and returns true; from the last profile to the first,
- * and returns false. Any counts and choices may come: a choice that cannot go up goes to 0 and the player before it goes up.
- * Places past the players keep their contents, and players past the last place are not read. */
-bool sigvanyor_advance_profile(const size_t *counts, size_t counts_len, size_t *profile);
+/* Steps `profile` to the next profile and returns true; from the last profile to the first, and returns false. Any counts and choices
+ * may come: a choice that is the last one, at its count or past it, up to SIZE_MAX, goes to 0 and the player before it goes up; false
+ * where no choice could go up. Places past the players keep their contents, and counts past the last place are not read. */
+bool sigvanyor_advance_profile(const size_t *counts, size_t counts_len, size_t profile[SIGVANYOR_MAX_PLAYERS]);
 
 #ifdef __cplusplus
 }

@@ -15,14 +15,14 @@ module _ {A : Type 0} where
   status (refused n) = n
 
   -- what an output is left with: the value told, or what it held before
-  abbrev pub left : Told A → A → A
-  left (values v) old = v
-  left (refused n) old = old
+  abbrev pub output : Told A → A → A
+  output (values v) old = v
+  output (refused n) old = old
 
--- the value v in place of the values told
-abbrev pub instead : {A B : Type 0} → Told A → B → Told B
-instead (values a) v = values v
-instead (refused n) v = refused n
+-- what an output beside an answer is left with: v where values are told, or what it held before
+abbrev pub beside : {A B : Type 0} → Told A → B → B → B
+beside (values a) v old = v
+beside (refused n) v old = old
 
 -- a part of the caller's table goes to C as its first place and its length: the P payoffs at offset × P, where the offset call tells it
 abbrev pub partStart : List ℕ → List Float → List ℕ → Told ℕ

@@ -16,13 +16,13 @@ ghost use Rattle.utility.specs.Value.{utilityAnswer, toldUtility};
 ghost use Rattle.table.specs.Step.{step};
 ghost use Rattle.table.specs.Checks.{countsRefusal, tableRefusal};
 ghost use Rattle.table.specs.Answers.{spaceOf, offsetAnswer, payoffAnswer};
-ghost use Rattle.exports.specs.Status.{status, left, instead, partStart, partLength};
+ghost use Rattle.exports.specs.Status.{status, output, beside, partStart, partLength};
 
 // ---- an answer into its outputs
 
 fn usize_into(answer: UsizeResult, number: &mut usize) -> u32
     ensures { λ r. ⌜ r ≡ status (toldUsize answer) ⌝ }
-    ensures { λ r. ⌜ now (number .exit) ≡ left (toldUsize answer) (now (number .entry)) ⌝ }
+    ensures { λ r. ⌜ now (number .exit) ≡ output (toldUsize answer) (now (number .entry)) ⌝ }
 {
     match answer {
         UsizeResult::Ok(n) => {
@@ -35,7 +35,7 @@ fn usize_into(answer: UsizeResult, number: &mut usize) -> u32
 
 fn utility_into(answer: UtilityResult, utility: &mut f64) -> u32
     ensures { λ r. ⌜ r ≡ status (toldUtility answer) ⌝ }
-    ensures { λ r. ⌜ now (utility .exit) ≡ left (toldUtility answer) (now (utility .entry)) ⌝ }
+    ensures { λ r. ⌜ now (utility .exit) ≡ output (toldUtility answer) (now (utility .entry)) ⌝ }
 {
     match answer {
         UtilityResult::Ok(u) => {
@@ -52,8 +52,8 @@ fn space_into(
     space_counts: &mut [usize; MAX_PLAYERS],
 ) -> u32
     ensures { λ r. ⌜ r ≡ status (toldUnit (answer .answer)) ⌝ }
-    ensures { λ r. ⌜ now (players .exit) ≡ left (instead (toldUnit (answer .answer)) (answer .space .players)) (now (players .entry)) ⌝ }
-    ensures { λ r. ⌜ now («space_counts» .exit) ≡ left (instead (toldUnit (answer .answer)) (answer .space .counts)) (now («space_counts» .entry)) ⌝ }
+    ensures { λ r. ⌜ now (players .exit) ≡ beside (toldUnit (answer .answer)) (answer .space .players) (now (players .entry)) ⌝ }
+    ensures { λ r. ⌜ now («space_counts» .exit) ≡ beside (toldUnit (answer .answer)) (answer .space .counts) (now («space_counts» .entry)) ⌝ }
 {
     let told = answer.answer;
     match told {
@@ -73,7 +73,7 @@ fn space_into(
 #[no_mangle]
 pub extern "C" fn sigvanyor_utility_new(value: f64, utility: &mut f64) -> u32
     ensures { λ r. ⌜ r ≡ status (utilityAnswer value) ⌝ }
-    ensures { λ r. ⌜ now (utility .exit) ≡ left (utilityAnswer value) (now (utility .entry)) ⌝ }
+    ensures { λ r. ⌜ now (utility .exit) ≡ output (utilityAnswer value) (now (utility .entry)) ⌝ }
 {
     utility_into(Utility::new(value), utility)
 }
@@ -92,8 +92,8 @@ pub extern "C" fn sigvanyor_from_counts(
     space_counts: &mut [usize; MAX_PLAYERS],
 ) -> u32
     ensures { λ r. ⌜ r ≡ status (unless (countsRefusal (now (counts .entry))) (spaceOf (now (counts .entry)))) ⌝ }
-    ensures { λ r. ⌜ now (players .exit) ≡ left (unless (countsRefusal (now (counts .entry))) (spaceOf (now (counts .entry)) .players)) (now (players .entry)) ⌝ }
-    ensures { λ r. ⌜ now («space_counts» .exit) ≡ left (unless (countsRefusal (now (counts .entry))) (spaceOf (now (counts .entry)) .counts)) (now («space_counts» .entry)) ⌝ }
+    ensures { λ r. ⌜ now (players .exit) ≡ output (unless (countsRefusal (now (counts .entry))) (spaceOf (now (counts .entry)) .players)) (now (players .entry)) ⌝ }
+    ensures { λ r. ⌜ now («space_counts» .exit) ≡ output (unless (countsRefusal (now (counts .entry))) (spaceOf (now (counts .entry)) .counts)) (now («space_counts» .entry)) ⌝ }
 {
     space_into(StrategySpace::from_counts(counts), players, space_counts)
 }
@@ -106,8 +106,8 @@ pub extern "C" fn sigvanyor_payoff_matrix_new(
     space_counts: &mut [usize; MAX_PLAYERS],
 ) -> u32
     ensures { λ r. ⌜ r ≡ status (unless (tableRefusal (now (counts .entry)) (now (payoffs .entry))) (spaceOf (now (counts .entry)))) ⌝ }
-    ensures { λ r. ⌜ now (players .exit) ≡ left (unless (tableRefusal (now (counts .entry)) (now (payoffs .entry))) (spaceOf (now (counts .entry)) .players)) (now (players .entry)) ⌝ }
-    ensures { λ r. ⌜ now («space_counts» .exit) ≡ left (unless (tableRefusal (now (counts .entry)) (now (payoffs .entry))) (spaceOf (now (counts .entry)) .counts)) (now («space_counts» .entry)) ⌝ }
+    ensures { λ r. ⌜ now (players .exit) ≡ output (unless (tableRefusal (now (counts .entry)) (now (payoffs .entry))) (spaceOf (now (counts .entry)) .players)) (now (players .entry)) ⌝ }
+    ensures { λ r. ⌜ now («space_counts» .exit) ≡ output (unless (tableRefusal (now (counts .entry)) (now (payoffs .entry))) (spaceOf (now (counts .entry)) .counts)) (now («space_counts» .entry)) ⌝ }
 {
     space_into(table::payoff_matrix(counts, payoffs), players, space_counts)
 }
@@ -120,7 +120,7 @@ pub extern "C" fn sigvanyor_offset(
     offset: &mut usize,
 ) -> u32
     ensures { λ r. ⌜ r ≡ status (offsetAnswer (now (counts .entry)) (now (payoffs .entry)) (now (profile .entry))) ⌝ }
-    ensures { λ r. ⌜ now (offset .exit) ≡ left (offsetAnswer (now (counts .entry)) (now (payoffs .entry)) (now (profile .entry))) (now (offset .entry)) ⌝ }
+    ensures { λ r. ⌜ now (offset .exit) ≡ output (offsetAnswer (now (counts .entry)) (now (payoffs .entry)) (now (profile .entry))) (now (offset .entry)) ⌝ }
 {
     usize_into(table::offset(counts, payoffs, profile), offset)
 }
@@ -134,7 +134,7 @@ pub extern "C" fn sigvanyor_payoff(
     utility: &mut f64,
 ) -> u32
     ensures { λ r. ⌜ r ≡ status (payoffAnswer (now (counts .entry)) (now (payoffs .entry)) (now (profile .entry)) player) ⌝ }
-    ensures { λ r. ⌜ now (utility .exit) ≡ left (payoffAnswer (now (counts .entry)) (now (payoffs .entry)) (now (profile .entry)) player) (now (utility .entry)) ⌝ }
+    ensures { λ r. ⌜ now (utility .exit) ≡ output (payoffAnswer (now (counts .entry)) (now (payoffs .entry)) (now (profile .entry)) player) (now (utility .entry)) ⌝ }
 {
     utility_into(table::payoff(counts, payoffs, profile, player), utility)
 }
@@ -148,8 +148,8 @@ pub extern "C" fn sigvanyor_profile_payoffs(
     number: &mut usize,
 ) -> u32
     ensures { λ r. ⌜ r ≡ status (offsetAnswer (now (counts .entry)) (now (payoffs .entry)) (now (profile .entry))) ⌝ }
-    ensures { λ r. ⌜ now (first .exit) ≡ left (partStart (now (counts .entry)) (now (payoffs .entry)) (now (profile .entry))) (now (first .entry)) ⌝ }
-    ensures { λ r. ⌜ now (number .exit) ≡ left (partLength (now (counts .entry)) (now (payoffs .entry)) (now (profile .entry))) (now (number .entry)) ⌝ }
+    ensures { λ r. ⌜ now (first .exit) ≡ output (partStart (now (counts .entry)) (now (payoffs .entry)) (now (profile .entry))) (now (first .entry)) ⌝ }
+    ensures { λ r. ⌜ now (number .exit) ≡ output (partLength (now (counts .entry)) (now (payoffs .entry)) (now (profile .entry))) (now (number .entry)) ⌝ }
 {
     match table::offset(counts, payoffs, profile) {
         UsizeResult::Ok(at) => {
@@ -169,8 +169,8 @@ pub extern "C" fn sigvanyor_advance_profile(
     ensures { λ r. ⌜ r ≡ step (now (counts .entry)) (now (profile .entry)) .more ⌝ }
     ensures { λ r. ⌜ now (profile .exit) ≡ step (now (counts .entry)) (now (profile .entry)) .profile ⌝ }
 {
-    let now = *profile;
-    let stepped = table::advance_profile(counts, now);
+    let before = *profile;
+    let stepped = table::advance_profile(counts, before);
     let next = stepped.profile;
     *profile = next;
     stepped.more

@@ -57,31 +57,22 @@ number-once d e h = sym (placed d) ∙ ap (λ (n : ℕ). getD (NoPlayers ∷ tab
 
 -- ---- the order of refusals
 
+some-none : (e : NormalFormError) → some e ≡ none → ⊥
+some-none e h = let z : _≡_ {A = ℕ} 0 1 = cc in omega arith
+
 -- `when b e` is none exactly where the test fails
 pub when-none : (b : Bool) (e : NormalFormError) → (when b e ≡ none) ↔ (b ≡ false)
-when-none true e = (λ h. absurd (clash h), λ h. absurd (true≢false h))
-  where
-    clash : some e ≡ none → ⊥
-    clash h = let z : _≡_ {A = ℕ} 0 1 = cc in omega arith
+when-none true e = (λ h. absurd (some-none e h), λ h. absurd (true≢false h))
 when-none false e = (λ h. refl, λ h. refl)
 
 -- `a then b` is none where both are, and else the first that is not
 pub then-none : (a b : Refusal) → ((a then b) ≡ none) ↔ ((a ≡ none) × (b ≡ none))
 then-none none b = (λ h. (refl, h), λ h. h .1)
-then-none (some e) b = (λ h. (h, absurd (clash h)), λ h. h .0)
-  where
-    clash : some e ≡ none → ⊥
-    clash h = let z : _≡_ {A = ℕ} 0 1 = cc in omega arith
+then-none (some e) b = (λ h. (h, absurd (some-none e h)), λ h. h .0)
 
 pub then-some : (a b : Refusal) (e : NormalFormError) → ((a then b) ≡ some e) ↔ ((a ≡ some e) ⊎ ((a ≡ none) × (b ≡ some e)))
-then-some none b e = (λ h. inr (refl, h), λ h. elim h [ inl g ↦ absurd (clash g) | inr g ↦ g .1 ])
-  where
-    clash : none ≡ some e → ⊥
-    clash h = let z : _≡_ {A = ℕ} 0 1 = cc in omega arith
-then-some (some d) b e = (λ h. inl h, λ h. elim h [ inl g ↦ g | inr g ↦ absurd (clash (g .0)) ])
-  where
-    clash : some d ≡ none → ⊥
-    clash h = let z : _≡_ {A = ℕ} 0 1 = cc in omega arith
+then-some none b e = (λ h. inr (refl, h), λ h. elim h [ inl g ↦ absurd (some-none e (sym g)) | inr g ↦ g .1 ])
+then-some (some d) b e = (λ h. inl h, λ h. elim h [ inl g ↦ g | inr g ↦ absurd (some-none d (g .0)) ])
 
 -- ---- player by player
 

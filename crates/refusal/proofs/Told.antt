@@ -1,11 +1,17 @@
--- What a caller knows of `unless` once it knows what an answer told. Assumes nothing.
+-- What a caller knows once it knows what an answer told: which refusal applies, or none and the values; and the answer itself.
+-- Assumes nothing.
 use mathlib.Core.Path.{_≡_, refl, sym, ap, _∙_}
 use mathlib.Core.Option.{none, some}
 use Prim.Native.Nat.{ℕ}
 use native.Mathlib.Omega.{arith}
 use Rattle.refusal.specs.Refusal.{Refusal, numberOf, _then_}
 use Rattle.refusal.specs.declared.NormalFormError.{NormalFormError}
-use Rattle.refusal.specs.Told.{values, refused, unless}
+use Rattle.refusal.specs.Told.{values, refused, unless, toldUnit, toldUsize}
+use Rattle.refusal.specs.declared.UnitResult.{UnitResult}
+use Rattle.refusal.specs.declared.UnitResult.the-variants.{Ok as ok, Err as err}
+use Rattle.refusal.specs.declared.UsizeResult.{UsizeResult}
+use Rattle.refusal.specs.declared.UsizeResult.the-variants.{Ok, Err}
+use Rattle.refusal.proofs.Refusal.{number-once}
 
 module _ {A : Type 0} where
   -- values are no refusal
@@ -30,3 +36,17 @@ module _ {A : Type 0} where
     -- and whatever refusals were to follow
     pub refused-first : (s : Refusal) → refused n ≡ unless (r then s) w
     refused-first s = let t = told-refused r v n h in ap (λ (m : ℕ). refused m) (t .2) ∙ sym (ap (λ (q : Refusal). unless (q then s) w) (t .1))
+
+-- ---- what was told determines the answer, since each refusal has a number of its own
+
+pub told-unit-once : (r s : UnitResult) → toldUnit r ≡ toldUnit s → r ≡ s
+told-unit-once ok ok h = refl
+told-unit-once ok (err e) h = absurd (apart tt (numberOf e) h)
+told-unit-once (err d) ok h = absurd (apart tt (numberOf d) (sym h))
+told-unit-once (err d) (err e) h = ap err (number-once d e (cc))
+
+pub told-usize-once : (r s : UsizeResult) → toldUsize r ≡ toldUsize s → r ≡ s
+told-usize-once (Ok m) (Ok n) h = ap Ok (cc)
+told-usize-once (Ok m) (Err e) h = absurd (apart m (numberOf e) h)
+told-usize-once (Err d) (Ok n) h = absurd (apart n (numberOf d) (sym h))
+told-usize-once (Err d) (Err e) h = ap Err (number-once d e (cc))

@@ -1,4 +1,4 @@
--- Which counts are refused, and with which refusal: each case that a walk over the counts can meet, and `countsRefusal` in quantifiers.
+-- Which tables, players and profiles are refused, and with which refusal: each case that a walk can meet, and each refusal in quantifiers.
 -- Assumes nothing.
 use mathlib.Core.Path.{_≡_}
 use mathlib.Core.List.{List}

@@ -34,6 +34,8 @@ record Computed : Type 0 where
   last-offset : offset counts (1 ∷ 2 ∷ 3 ∷ []) ≡ 23
   last-cell : cell counts (1 ∷ 2 ∷ 3 ∷ []) 2 ≡ 71
   first-offset : offset counts (0 ∷ 0 ∷ 0 ∷ []) ≡ 0
+  -- a profile's cells stand side by side
+  inner-cell : cell counts (0 ∷ 1 ∷ 2 ∷ []) 1 ≡ 19
   -- the last player's choice runs fastest
   strides : map (stride counts) (below 3) ≡ 12 ∷ 4 ∷ 1 ∷ []
   -- the last choice goes up, a choice that has no room begins again, and the last profile has no next one
@@ -75,6 +77,7 @@ computed =
       last-offset = refl;
       last-cell = refl;
       first-offset = refl;
+      inner-cell = refl;
       strides = refl;
       step-up = refl;
       step-carries = refl;

@@ -1,4 +1,4 @@
--- Products of counts that a loop takes one at a time: what is done, what is left, and that eight counts of 64 fit a number of 64 bits.
+-- Products of counts that a loop takes one at a time: what is done, what is left, and that maxPlayers counts of maxStrategies, and one factor more, fit a number of 64 bits.
 -- Assumes nothing.
 use mathlib.Core.Path.{_≡_, sym, _∙_}
 use mathlib.Core.List.{List, [], _∷_}
@@ -22,7 +22,7 @@ product-end cs p m h e = sym (mul-one m) ∙ (rw (h, drop-length) at e)
 pub power-more : (m c p : ℕ) → m ≤ maxStrategies ^ p → c ≤ maxStrategies → m * c ≤ maxStrategies ^ (p + 1)
 power-more m c p h k = rw (add-one, pow-suc) (mul-le-mul h k)
 
--- a product of at most eight counts, and one factor more
+-- a product of at most maxPlayers counts, and one factor more
 pub power-cap : (m c p : ℕ) → m ≤ maxStrategies ^ p → p ≤ maxPlayers → c ≤ maxStrategies → m * c ≤ maxStrategies ^ suc maxPlayers
 power-cap m c p h l k = mul-le-mul (le-trans h (pow-le-pow-right (omega arith) l)) k
 

@@ -7,7 +7,7 @@ use mathlib.Core.Option.{none, some}
 use Prim.Native.Nat.{ℕ, zero, suc, _+_, _≤_, _<_}
 use native.Mathlib.Nat.{le-of-suc-le-suc, min-eq-left}
 use native.Mathlib.Omega.{arith}
-use lib.ListN.{length, getD, set, take, replicate, length-take, length-append, length-set}
+use lib.ListN.{length, getD, set, replicate, length-take, length-append, length-set}
 use lib.Seq.{ext-getD, getD-take, getD-set-same, getD-set-other}
 use borrow.Author.Count.{below-more}
 use Rattle.game.proofs.Finite.{le-or-lt}
@@ -17,7 +17,7 @@ use Rattle.refusal.specs.declared.UsizeResult.{UsizeResult}
 use Rattle.refusal.specs.declared.UsizeResult.the-variants.{Ok, Err}
 use Rattle.refusal.proofs.Told.{apart}
 use Rattle.table.specs.Limits.{maxPlayers}
-use Rattle.table.specs.Answers.{spaceOf, spaceUnless, spaceResult}
+use Rattle.table.specs.Answers.{places, spaceOf, spaceUnless, spaceResult}
 
 -- past its end a list of counts has 0
 past : (cs : List ℕ) (p : ℕ) → length cs ≤ p → getD cs p 0 ≡ 0
@@ -35,54 +35,54 @@ with-zeros [] n p = zeros n p
 with-zeros (c ∷ cs) n zero = refl
 with-zeros (c ∷ cs) n (suc p) = with-zeros cs n p
 
-eight : (cs : List ℕ) → length (take maxPlayers (cs ++ replicate maxPlayers 0)) ≡ maxPlayers
-eight cs = rw (length-take, length-append) (min-eq-left (omega arith))
+places-length : (cs : List ℕ) → length (places cs) ≡ maxPlayers
+places-length cs = rw (length-take, length-append) (min-eq-left (omega arith))
 
 -- ---- the law
 
--- every place of a space that has at most eight players holds that player's count, which from P on is 0
+-- every place of the space of at most maxPlayers counts holds that player's count, which from P on is 0
 pub space-count : (cs : List ℕ) (p : ℕ) → length cs ≤ maxPlayers → getD (spaceOf cs .counts) p 0 ≡ getD cs p 0
 unfolding spaceOf
 space-count cs p h =
     ⊎-elim
-    (λ l. past (take maxPlayers (cs ++ replicate maxPlayers 0)) p (omega (arith, eight cs)) ∙ sym (past cs p (omega arith)))
+    (λ l. past (places cs) p (omega (arith, places-length cs)) ∙ sym (past cs p (omega arith)))
     (λ l. getD-take maxPlayers (cs ++ replicate maxPlayers 0) p 0 l ∙ with-zeros cs maxPlayers p)
     (le-or-lt maxPlayers p)
 
 -- ---- the loop
 
 -- the places of the first p players are filled
-pub record Filled (cs : List ℕ) (p : ℕ) (places : List ℕ) : Type 0 where
-  pub size : length places ≡ maxPlayers
-  pub done : (q : ℕ) → q < p → getD places q 0 ≡ getD cs q 0
-  pub rest : (q : ℕ) → p ≤ q → getD places q 0 ≡ 0
+pub record Filled (cs : List ℕ) (p : ℕ) (xs : List ℕ) : Type 0 where
+  pub size : length xs ≡ maxPlayers
+  pub done : (q : ℕ) → q < p → getD xs q 0 ≡ getD cs q 0
+  pub rest : (q : ℕ) → p ≤ q → getD xs q 0 ≡ 0
 
 pub filled-none : (cs : List ℕ) → Filled cs 0 (replicate maxPlayers 0)
 filled-none cs = record { size = refl; done = λ q h. absurd (omega arith); rest = λ q h. zeros maxPlayers q }
 
-pub filled-more : (cs : List ℕ) (p : ℕ) (places : List ℕ) → p < maxPlayers → Filled cs p places → Filled cs (p + 1) (set places p (getD cs p 0))
-filled-more cs p places h f =
+pub filled-more : (cs : List ℕ) (p : ℕ) (xs : List ℕ) → p < maxPlayers → Filled cs p xs → Filled cs (p + 1) (set xs p (getD cs p 0))
+filled-more cs p xs h f =
     record {
-      size = length-set places p (getD cs p 0) ∙ f .size;
-      done = below-more (λ q. getD (set places p (getD cs p 0)) q 0 ≡ getD cs q 0) p
-          (λ q l. getD-set-other places p q (getD cs p 0) 0 (omega arith) ∙ f .done q l)
-          (getD-set-same places p (getD cs p 0) 0 (omega (arith, f .size)));
-      rest = λ q l. getD-set-other places p q (getD cs p 0) 0 (omega arith) ∙ f .rest q (omega arith);
+      size = length-set xs p (getD cs p 0) ∙ f .size;
+      done = below-more (λ q. getD (set xs p (getD cs p 0)) q 0 ≡ getD cs q 0) p
+          (λ q l. getD-set-other xs p q (getD cs p 0) 0 (omega arith) ∙ f .done q l)
+          (getD-set-same xs p (getD cs p 0) 0 (omega (arith, f .size)));
+      rest = λ q l. getD-set-other xs p q (getD cs p 0) 0 (omega arith) ∙ f .rest q (omega arith);
     }
 
 -- a place past the counts stays
-pub filled-past : (cs : List ℕ) (p : ℕ) (places : List ℕ) → length cs ≤ p → Filled cs p places → Filled cs (p + 1) places
-filled-past cs p places h f =
+pub filled-past : (cs : List ℕ) (p : ℕ) (xs : List ℕ) → length cs ≤ p → Filled cs p xs → Filled cs (p + 1) xs
+filled-past cs p xs h f =
     record {
       size = f .size;
-      done = below-more (λ q. getD places q 0 ≡ getD cs q 0) p (f .done) (f .rest p (omega arith) ∙ sym (past cs p h));
+      done = below-more (λ q. getD xs q 0 ≡ getD cs q 0) p (f .done) (f .rest p (omega arith) ∙ sym (past cs p h));
       rest = λ q l. f .rest q (omega arith);
     }
 
-pub filled-all : (cs : List ℕ) (p : ℕ) (places : List ℕ) → maxPlayers ≤ p → Filled cs p places → places ≡ take maxPlayers (cs ++ replicate maxPlayers 0)
-filled-all cs p places h f =
-    ext-getD 0 places (take maxPlayers (cs ++ replicate maxPlayers 0))
-    (f .size ∙ sym (eight cs))
+pub filled-all : (cs : List ℕ) (p : ℕ) (xs : List ℕ) → maxPlayers ≤ p → Filled cs p xs → xs ≡ places cs
+filled-all cs p xs h f =
+    ext-getD 0 xs (places cs)
+    (f .size ∙ sym (places-length cs))
     (λ q l.
     let k : q < maxPlayers = omega (arith, f .size) in
     f .done q (omega arith) ∙ sym (with-zeros cs maxPlayers q) ∙ sym (getD-take maxPlayers (cs ++ replicate maxPlayers 0) q 0 k))

@@ -1,4 +1,4 @@
--- Stepping goes from the k-th profile to the next, and from the last to the first: by the places of Offset.antt, the first choice stays
+-- Stepping goes from the k-th profile to the next, and from the last to the first: by `nth-cons` of Offsets, the first choice stays
 -- while the rest has a next one, and goes up by one where the rest begins again. Then what a loop over the players, from the last down,
 -- needs of `step`. Assumes nothing.
 use mathlib.Core.Path.{_≡_, refl, ap, _∙_}
@@ -15,7 +15,7 @@ use Rattle.game.specs.Game.{profiles}
 use Rattle.game.proofs.Finite.{test-true, test-false}
 use Rattle.table.specs.Step.{carried, step}
 use Rattle.table.specs.declared.Advanced.{Advanced}
-use Rattle.table.proofs.Offsets.{nth-cons, digits}
+use Rattle.table.proofs.Offsets.{nth-cons, nth-profile, digits}
 
 -- where the players after have begun again, a choice with room goes up by one
 up : (c s : ℕ) (x : List ℕ) → s + 1 < c
@@ -84,10 +84,6 @@ step-down-carry cs x p q e h l r = rw e (go cs x q h l r)
     go (c ∷ cs) (s ∷ x) zero h l r = over c s x r
     go (c ∷ cs) (s ∷ x) (suc q) h l r = ap (carried c s) (go cs x q (le-of-suc-le-suc h) (le-of-suc-le-suc l) r)
 
--- Where no player is left, every choice has begun again.
-pub step-down-end : (cs x : List ℕ) → step (take 0 cs) x ≡ record { more = false; profile = x }
-step-down-end cs x = refl
-
 -- ---- the list of choices
 
 -- `carried` by its two tests: whether the players after had a next choice, and whether this one has room
@@ -130,3 +126,17 @@ step-few (c ∷ cs) [] zero h = refl
 step-few (c ∷ cs) [] (suc p) h = refl
 step-few (c ∷ cs) (s ∷ x) zero h = absurd (not-suc-le-zero h)
 step-few (c ∷ cs) (s ∷ x) (suc p) h = ap (carried c s) (step-few cs x p (le-of-suc-le-suc h))
+
+-- In an array of places, whatever stands after the players: from the k-th profile to the next,
+pub step-place : (cs rest : List ℕ) (k : ℕ) → suc k < product cs
+    → step cs (getD (profiles cs) k [] ++ rest) ≡ record { more = true; profile = getD (profiles cs) (suc k) [] ++ rest }
+step-place cs rest k h =
+    let r = nth-profile cs k (omega arith) in
+    rw (step-append cs (getD (profiles cs) k []) rest (omega (arith, r .each)), step-next cs k h)
+
+-- and from the last to the first.
+pub step-place-last : (cs rest : List ℕ) (k : ℕ) → suc k ≡ product cs
+    → step cs (getD (profiles cs) k [] ++ rest) ≡ record { more = false; profile = getD (profiles cs) 0 [] ++ rest }
+step-place-last cs rest k h =
+    let r = nth-profile cs k (omega arith) in
+    rw (step-append cs (getD (profiles cs) k []) rest (omega (arith, r .each)), step-last cs k h)

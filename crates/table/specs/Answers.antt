@@ -18,11 +18,15 @@ use Rattle.table.specs.declared.SpaceResult.{SpaceResult}
 
 -- ---- strategy spaces
 
--- P and eight counts, a place from P on holding 0
-unfoldable pub spaceOf : List ℕ → StrategySpace
-spaceOf counts = record { players = length counts; counts = take maxPlayers (counts ++ replicate maxPlayers 0) }
+-- the counts in as many places as there may be players, a place from P on holding 0
+abbrev pub places : List ℕ → List ℕ
+places counts = take maxPlayers (counts ++ replicate maxPlayers 0)
 
--- the space of the counts, or beside a refusal P 0 and eight zeros
+-- P and the counts
+unfoldable pub spaceOf : List ℕ → StrategySpace
+spaceOf counts = record { players = length counts; counts = places counts }
+
+-- the space of the counts, or beside a refusal P 0 and zeros
 abbrev pub spaceUnless : Refusal → List ℕ → StrategySpace
 spaceUnless none counts = spaceOf counts
 spaceUnless (some e) counts = spaceOf []

@@ -13,11 +13,11 @@ use Rattle.utility.specs.Order.{finite}
 use Rattle.table.specs.Limits.{maxPlayers, maxStrategies, maxCells}
 use Rattle.table.specs.Table.{cells}
 
--- a count is 0 (3), or over 64 (4)
+-- a count is 0 (3), or over the limit (4)
 unfoldable pub countRefusal : ℕ → Refusal
 countRefusal c = when (eqb c 0) NoStrategies then when (ltb maxStrategies c) TooManyStrategies
 
--- P is 0 (1), P over 8 (2), then 3 and 4 player by player, then cells over 65,536 (5)
+-- P is 0 (1), P over the limit (2), then 3 and 4 player by player, then cells over the limit (5)
 unfoldable pub countsRefusal : List ℕ → Refusal
 countsRefusal counts =
     when (eqb (length counts) 0) NoPlayers

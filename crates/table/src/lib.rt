@@ -6,16 +6,13 @@ use refusal::UsizeResult;
 use utility::Utility;
 use utility::UtilityResult;
 ghost use mathlib.Core.Path.{_≡_};
-ghost use mathlib.Core.List.{_++_};
 ghost use mathlib.Core.Option.{none};
-ghost use lib.ListN.{take, replicate};
 ghost use Rattle.refusal.specs.Told.{toldUnit, toldUsize, unless};
 ghost use Rattle.utility.specs.Value.{toldUtility};
-ghost use Rattle.table.specs.Limits.{maxPlayers};
 ghost use Rattle.table.specs.Table.{offset};
 ghost use Rattle.table.specs.Step.{step};
 ghost use Rattle.table.specs.Checks.{countsRefusal, tableRefusal, profileRefusal};
-ghost use Rattle.table.specs.Answers.{spaceUnless, spaceResult, countsAnswer, tableAnswer, offsetAnswer, payoffAnswer, profilePayoffs};
+ghost use Rattle.table.specs.Answers.{places, spaceUnless, spaceResult, countsAnswer, tableAnswer, offsetAnswer, payoffAnswer, profilePayoffs};
 
 // The limits of document 01, "The table".
 pub const MAX_PLAYERS: usize = 8;
@@ -24,7 +21,7 @@ pub const MAX_STRATEGIES: usize = 64;
 
 pub const MAX_CELLS: usize = 65536;
 
-// The players of a table and how many strategies each has. A place from `players` on holds 0.
+// The players of a table and how many strategies each has. As `from_counts` makes it, a place from `players` on holds 0.
 pub struct StrategySpace {
     pub players: usize,
     pub counts: [usize; MAX_PLAYERS],
@@ -91,9 +88,9 @@ pub fn table_profile_count(counts: &[usize], payoffs: &[f64]) -> UsizeResult
     }
 }
 
-// The first eight counts, and 0 in the places after the last.
+// The counts, one to a place, and 0 in the places after the last.
 fn padded(counts: &[usize]) -> [usize; MAX_PLAYERS]
-    ensures { λ r. ⌜ r ≡ take maxPlayers (now (counts .entry) ++ replicate maxPlayers 0) ⌝ }
+    ensures { λ r. ⌜ r ≡ places (now (counts .entry)) ⌝ }
 {
     let mut places = [0usize; MAX_PLAYERS];
     let mut p = 0;
@@ -213,7 +210,7 @@ pub fn profile_payoffs<'a>(counts: &[usize], payoffs: &'a [f64], profile: &[usiz
 
 // The next profile in lexicographic order, for the players of `counts`. Any counts and choices may come: a choice that cannot go up,
 // because it is the last one, at its count or past it, goes to 0 and the player before it goes up. Places past the players keep their
-// contents, and players past the eighth have no place.
+// contents, and players past the last place are not read.
 pub fn advance_profile(counts: &[usize], profile: [usize; MAX_PLAYERS]) -> Advanced
     ensures { λ r. ⌜ r ≡ step (now (counts .entry)) profile ⌝ }
 {

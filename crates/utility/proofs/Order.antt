@@ -78,8 +78,8 @@ code-lt f n h =
     (mul-le-mul-right (hid f) (field-le (size n) (prec f) (emax f) (two f) (reach f) (size-le n (suc (emax f) + low f) h))))
 
 -- ---- a signed magnitude c as a number: w + c or w - c
-abbrev offset : ℕ → Bool → ℕ → ℕ
-offset w s c = cond s (w - c) (w + c)
+abbrev signed : ℕ → Bool → ℕ → ℕ
+signed w s c = cond s (w - c) (w + c)
 
 data Zero (a c : ℕ) : Type 0 where
   both : a ≡ 0 → c ≡ 0 → Zero a c
@@ -92,7 +92,7 @@ no-lt : (a b c d : ℕ) → b ≤ a → d ≤ c → ltb a b ≡ ltb c d
 no-lt a b c d h k = le-ltb a b h ∙ sym (le-ltb c d k)
 
 signs-lt : (w : ℕ) (s t : Bool) (a b c d : ℕ)
-    → Alike a b c d → Zero a c → Zero b d → c < w → d < w → below s a t b ≡ ltb (offset w s c) (offset w t d)
+    → Alike a b c d → Zero a c → Zero b d → c < w → d < w → below s a t b ≡ ltb (signed w s c) (signed w t d)
 signs-lt w false false a b c d (less h k) y z C D = yes-lt a b (w + c) (w + d) h (omega arith)
 signs-lt w false false a b c d (same h k) y z C D = no-lt a b (w + c) (w + d) (omega arith) (omega arith)
 signs-lt w false false a b c d (more h k) y z C D = no-lt a b (w + c) (w + d) (omega arith) (omega arith)
@@ -115,7 +115,7 @@ apart : (a b c d : ℕ) → (a ≡ 0 → ⊥) → (c ≡ d → ⊥) → (eqb a b
 apart a b c d h k = ap (λ (x : Bool). eqb a b && x) (ne-eqb a 0 h) ∙ and-false (eqb a b) ∙ sym (ne-eqb c d k)
 
 signs-eq : (w : ℕ) (s t : Bool) (a b c d : ℕ)
-    → Alike a b c d → Zero a c → Zero b d → c < w → d < w → level s a t b ≡ eqb (offset w s c) (offset w t d)
+    → Alike a b c d → Zero a c → Zero b d → c < w → d < w → level s a t b ≡ eqb (signed w s c) (signed w t d)
 signs-eq w false false a b c d (less h k) y z C D = no-eq true a b (w + c) (w + d) (omega arith) (omega arith)
 signs-eq w false false a b c d (same h k) y z C D = yes-eq true a b (w + c) (w + d) h refl (omega arith)
 signs-eq w false false a b c d (more h k) y z C D = no-eq true a b (w + c) (w + d) (omega arith) (omega arith)
@@ -130,7 +130,7 @@ signs-eq w true true a b c d (same h k) y z C D = yes-eq true a b (w - c) (w - d
 signs-eq w true true a b c d (more h k) y z C D = no-eq true a b (w - c) (w - d) (omega arith) (omega arith)
 
 -- ---- the rank of a value, by its sign and its code
-rank-of : (s : Bool) (c : ℕ) → c < 2 ^ 63 → rankOf (cond s (2 ^ 63) 0 + c) ≡ offset (2 ^ 63) s c
+rank-of : (s : Bool) (c : ℕ) → c < 2 ^ 63 → rankOf (cond s (2 ^ 63) 0 + c) ≡ signed (2 ^ 63) s c
 rank-of true c h = let k : ltb (2 ^ 63 + c) (2 ^ 63) ≡ false = le-ltb (2 ^ 63 + c) (2 ^ 63) (omega arith) in rw k (omega arith)
 rank-of false c h = let k : ltb c (2 ^ 63) ≡ true = lt-ltb c (2 ^ 63) h in rw (zero-add c, k)
 
@@ -142,10 +142,10 @@ beyond-lt : beyond < 2 ^ 63
 beyond-lt = lit< tt
 
 rank-fin : (s : Bool) (m : ℕ) (e : ℤ) (n : ℕ) → T (fits binary64 (fin s m e))
-    → m * up e * 2 ^ low binary64 ≡ n * down e → code 53 n < 2 ^ 63 → rank (fin s m e) ≡ offset (2 ^ 63) s (code 53 n)
+    → m * up e * 2 ^ low binary64 ≡ n * down e → code 53 n < 2 ^ 63 → rank (fin s m e) ≡ signed (2 ^ 63) s (code 53 n)
 rank-fin s m e n f p h = rank-bits (fin s m e) f ∙ ap rankOf (bits-fin binary64 s m e n p) ∙ rank-of s (code 53 n) h
 
-rank-inf : (s : Bool) → T (fits binary64 (inf s)) → rank (inf s) ≡ offset (2 ^ 63) s beyond
+rank-inf : (s : Bool) → T (fits binary64 (inf s)) → rank (inf s) ≡ signed (2 ^ 63) s beyond
 rank-inf s f = rank-bits (inf s) f ∙ ap rankOf (bits-inf binary64 s) ∙ rank-of s beyond beyond-lt
 
 -- x and y compare as a and b do
@@ -196,30 +196,30 @@ two-fin s m e t n d h k =
     (λ g. code-mono 53 M N P (Y .2) (X .2) (cross-gt l (down e) (down d) (m * up e) (n * up d) N M L (down-pos e) (down-pos d) (X .1) (Y .1) g)) in
     let z : Zero A c = zeros 53 l (down e) (down d) (m * up e) N P L (down-pos e) (down-pos d) (X .1) (X .2) in
     let z′ : Zero B c′ = zeros 53 l (down d) (down e) (n * up d) M P L (down-pos d) (down-pos e) (Y .1) (Y .2) in
-    as-ranks (fin s m e) (fin t n d) (offset w s c) (offset w t c′) (rank-fin s m e N h (X .1) C) (rank-fin t n d M k (Y .1) C′)
+    as-ranks (fin s m e) (fin t n d) (signed w s c) (signed w t c′) (rank-fin s m e N h (X .1) C) (rank-fin t n d M k (Y .1) C′)
     (signs-lt w s t A B c c′ a z z′ C C′, signs-eq w s t A B c c′ a z z′ C C′)
 
 -- ---- an infinity lies beyond every finite value. i is the code of an infinity
 module _ (w i c : ℕ) (C : c < i) (I : i < w) where
-  inf-fin-lt : (s t : Bool) → s ≡ ltb (offset w s i) (offset w t c)
+  inf-fin-lt : (s t : Bool) → s ≡ ltb (signed w s i) (signed w t c)
   inf-fin-lt true true = sym (lt-ltb (w - i) (w - c) (omega arith))
   inf-fin-lt true false = sym (lt-ltb (w - i) (w + c) (omega arith))
   inf-fin-lt false true = sym (le-ltb (w + i) (w - c) (omega arith))
   inf-fin-lt false false = sym (le-ltb (w + i) (w + c) (omega arith))
 
-  fin-inf-lt : (s t : Bool) → not t ≡ ltb (offset w s c) (offset w t i)
+  fin-inf-lt : (s t : Bool) → not t ≡ ltb (signed w s c) (signed w t i)
   fin-inf-lt true true = sym (le-ltb (w - c) (w - i) (omega arith))
   fin-inf-lt true false = sym (lt-ltb (w - c) (w + i) (omega arith))
   fin-inf-lt false true = sym (le-ltb (w + c) (w - i) (omega arith))
   fin-inf-lt false false = sym (lt-ltb (w + c) (w + i) (omega arith))
 
-  inf-fin-ne : (s t : Bool) → offset w s i ≡ offset w t c → ⊥
+  inf-fin-ne : (s t : Bool) → signed w s i ≡ signed w t c → ⊥
   inf-fin-ne true true h = omega arith
   inf-fin-ne true false h = omega arith
   inf-fin-ne false true h = omega arith
   inf-fin-ne false false h = omega arith
 
-two-inf : (s t : Bool) → As (inf s) (inf t) (offset (2 ^ 63) s beyond) (offset (2 ^ 63) t beyond)
+two-inf : (s t : Bool) → As (inf s) (inf t) (signed (2 ^ 63) s beyond) (signed (2 ^ 63) t beyond)
 unfolding lt eq
 two-inf true true = (refl, refl)
 two-inf true false = (refl, refl)
@@ -227,7 +227,7 @@ two-inf false true = (refl, refl)
 two-inf false false = (refl, refl)
 
 -- the sign and the code of a finite value
-split : (s : Bool) (m : ℕ) (e : ℤ) → T (fits binary64 (fin s m e)) → (c : ℕ) × (rank (fin s m e) ≡ offset (2 ^ 63) s c) × (c < beyond)
+split : (s : Bool) (m : ℕ) (e : ℤ) → T (fits binary64 (fin s m e)) → (c : ℕ) × (rank (fin s m e) ≡ signed (2 ^ 63) s c) × (c < beyond)
 split s m e h =
     let X = units binary64 s m e h in
     let C = code-lt binary64 (X .0) (X .3) in
@@ -240,18 +240,18 @@ unfolding lt eq number
 numbers nan y h k p q = absurd p
 numbers (inf s) nan h k p q = absurd q
 numbers (inf s) (inf t) h k p q =
-    as-ranks (inf s) (inf t) (offset (2 ^ 63) s beyond) (offset (2 ^ 63) t beyond) (rank-inf s h) (rank-inf t k) (two-inf s t)
+    as-ranks (inf s) (inf t) (signed (2 ^ 63) s beyond) (signed (2 ^ 63) t beyond) (rank-inf s h) (rank-inf t k) (two-inf s t)
 numbers (inf s) (fin t n d) h k p q =
     let (c, r, l) = split t n d k in
-    let a = offset (2 ^ 63) s beyond in
-    let b = offset (2 ^ 63) t c in
+    let a = signed (2 ^ 63) s beyond in
+    let b = signed (2 ^ 63) t c in
     as-ranks (inf s) (fin t n d) a b (rank-inf s h) r
     (inf-fin-lt (2 ^ 63) beyond c l beyond-lt s t, sym (ne-eqb a b (inf-fin-ne (2 ^ 63) beyond c l beyond-lt s t)))
 numbers (fin s m e) nan h k p q = absurd q
 numbers (fin s m e) (inf t) h k p q =
     let (c, r, l) = split s m e h in
-    let a = offset (2 ^ 63) s c in
-    let b = offset (2 ^ 63) t beyond in
+    let a = signed (2 ^ 63) s c in
+    let b = signed (2 ^ 63) t beyond in
     as-ranks (fin s m e) (inf t) a b r (rank-inf t k)
     (fin-inf-lt (2 ^ 63) beyond c l beyond-lt s t, sym (ne-eqb a b (λ g. inf-fin-ne (2 ^ 63) beyond c l beyond-lt t s (sym g))))
 numbers (fin s m e) (fin t n d) h k p q = two-fin s m e t n d h k

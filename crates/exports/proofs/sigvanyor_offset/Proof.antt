@@ -3,7 +3,7 @@ use mathlib.Core.Path.{ap, _∙_}
 use Prim.Native.Nat.{ℕ}
 use borrow.Author.Needs.{needs}
 use Rattle.refusal.specs.Told.{Told}
-use Rattle.exports.specs.Status.{status, left}
+use Rattle.exports.specs.Status.{status, output}
 use Rattle.exports.proofs.sigvanyor_offset.Statement.{statement}
 use Rattle.exports.proofs.sigvanyor_offset.Tie as tie
 
@@ -17,7 +17,7 @@ returns : tie.Need-returns
 returns c =
     let told = c .before .before .offset .ensures in (
       c .usize-into .ensures .0 ∙ ap status told,
-      c .usize-into .ensures .1 ∙ ap (λ (t : Told ℕ). left t (c .before .before .before .before .before .before .args .offset .now)) told,
+      c .usize-into .ensures .1 ∙ ap (λ (t : Told ℕ). output t (c .before .before .before .before .before .before .args .offset .now)) told,
     )
 
 pub sigvanyor-offset-spec : {M : Type 1} → statement M

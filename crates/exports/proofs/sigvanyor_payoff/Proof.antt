@@ -3,7 +3,7 @@ use mathlib.Core.Path.{ap, _∙_}
 use lib.Ieee.{Float}
 use borrow.Author.Needs.{needs}
 use Rattle.refusal.specs.Told.{Told}
-use Rattle.exports.specs.Status.{status, left}
+use Rattle.exports.specs.Status.{status, output}
 use Rattle.exports.proofs.sigvanyor_payoff.Statement.{statement}
 use Rattle.exports.proofs.sigvanyor_payoff.Tie as tie
 
@@ -17,7 +17,7 @@ returns : tie.Need-returns
 returns c =
     let told = c .before .before .payoff .ensures in (
       c .utility-into .ensures .0 ∙ ap status told,
-      c .utility-into .ensures .1 ∙ ap (λ (t : Told Float). left t (c .before .before .before .before .before .before .args .utility .now)) told,
+      c .utility-into .ensures .1 ∙ ap (λ (t : Told Float). output t (c .before .before .before .before .before .before .args .utility .now)) told,
     )
 
 pub sigvanyor-payoff-spec : {M : Type 1} → statement M

@@ -2,7 +2,7 @@
 use mathlib.Core.Path.{_∙_}
 use borrow.Author.Needs.{needs}
 use Rattle.table.specs.Checks.{tableRefusal}
-use Rattle.exports.proofs.Left.{space-left}
+use Rattle.exports.proofs.Outputs.{space-output}
 use Rattle.exports.proofs.sigvanyor_payoff_matrix_new.Statement.{statement}
 use Rattle.exports.proofs.sigvanyor_payoff_matrix_new.Tie as tie
 
@@ -16,7 +16,7 @@ returns : tie.Need-returns
 returns c =
     let a = c .before .before .before .before .before .before .args in
     let k = c .before .before .before .payoff-matrix in
-    let t = space-left (tableRefusal (a .counts .now) (a .payoffs .now)) (a .counts .now) (k .result) (k .ensures .0) (k .ensures .1) in
+    let t = space-output (tableRefusal (a .counts .now) (a .payoffs .now)) (a .counts .now) (k .result) (k .ensures .0) (k .ensures .1) in
     let e = c .space-into .ensures in
     (e .0 ∙ t .0, (e .1 .0 ∙ t .1 _, e .1 .1 ∙ t .2 _))
 

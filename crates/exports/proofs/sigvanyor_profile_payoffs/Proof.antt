@@ -12,7 +12,7 @@ use Rattle.refusal.proofs.Told.{told-refused}
 use Rattle.table.specs.Table.{offset}
 use Rattle.table.specs.Checks.{tableRefusal, profileRefusal}
 use Rattle.table.proofs.Table.{PartTold, part-told}
-use Rattle.exports.specs.Status.{status, left}
+use Rattle.exports.specs.Status.{status, output}
 use Rattle.exports.proofs.sigvanyor_profile_payoffs.Statement.{statement}
 use Rattle.exports.proofs.sigvanyor_profile_payoffs.Tie as tie
 
@@ -51,8 +51,8 @@ returns c =
     let p = length (counts c) in (
       sym (ap (λ (q : Refusal). status (unless q (offset (counts c) (profile c)))) (told c .none-applies)),
       (
-        ap (λ (n : ℕ). n * p) (told c .is) ∙ sym (ap (λ (q : Refusal). left (unless q (offset (counts c) (profile c) * p)) (a .first .now)) (told c .none-applies)),
-        sym (ap (λ (q : Refusal). left (unless q p) (a .number .now)) (told c .none-applies)),
+        ap (λ (n : ℕ). n * p) (told c .is) ∙ sym (ap (λ (q : Refusal). output (unless q (offset (counts c) (profile c) * p)) (a .first .now)) (told c .none-applies)),
+        sym (ap (λ (q : Refusal). output (unless q p) (a .number .now)) (told c .none-applies)),
       ),
     )
 
@@ -65,8 +65,8 @@ returns-2 c =
     let t = told-refused (tableRefusal cs (a .payoffs .now) then profileRefusal cs x) _ _ (sym (ap toldUsize (k .e .given .1)) ∙ k .before .before .offset .ensures) in (
       c .number .ensures ∙ t .2 ∙ sym (ap (λ (q : Refusal). status (unless q (offset cs x))) (t .1)),
       (
-        sym (ap (λ (q : Refusal). left (unless q (offset cs x * length cs)) (a .first .now)) (t .1)),
-        sym (ap (λ (q : Refusal). left (unless q (length cs)) (a .number .now)) (t .1)),
+        sym (ap (λ (q : Refusal). output (unless q (offset cs x * length cs)) (a .first .now)) (t .1)),
+        sym (ap (λ (q : Refusal). output (unless q (length cs)) (a .number .now)) (t .1)),
       ),
     )
 

@@ -3,7 +3,7 @@ use mathlib.Core.Path.{sym, ap, _∙_}
 use borrow.Author.Needs.{needs}
 use Rattle.refusal.specs.Told.{toldUnit}
 use Rattle.refusal.specs.declared.UnitResult.{UnitResult}
-use Rattle.exports.specs.Status.{status, left, instead}
+use Rattle.exports.specs.Status.{status, beside}
 use Rattle.exports.proofs.space_into.Statement.{statement}
 use Rattle.exports.proofs.space_into.Tie as tie
 
@@ -22,8 +22,8 @@ returns c =
     let g = c .before .before .enum-told .given .1 in (
       sym (ap (λ (t : UnitResult). status (toldUnit t)) g),
       (
-        sym (ap (λ (t : UnitResult). left (instead (toldUnit t) (a .answer .space .players)) (a .players .now)) g),
-        sym (ap (λ (t : UnitResult). left (instead (toldUnit t) (a .answer .space .counts)) (a .space-counts .now)) g),
+        sym (ap (λ (t : UnitResult). beside (toldUnit t) (a .answer .space .players) (a .players .now)) g),
+        sym (ap (λ (t : UnitResult). beside (toldUnit t) (a .answer .space .counts) (a .space-counts .now)) g),
       ),
     )
 
@@ -33,8 +33,8 @@ returns-2 c =
     let g = c .before .before .told .given .1 in (
       c .number .ensures ∙ sym (ap (λ (t : UnitResult). status (toldUnit t)) g),
       (
-        sym (ap (λ (t : UnitResult). left (instead (toldUnit t) (a .answer .space .players)) (a .players .now)) g),
-        sym (ap (λ (t : UnitResult). left (instead (toldUnit t) (a .answer .space .counts)) (a .space-counts .now)) g),
+        sym (ap (λ (t : UnitResult). beside (toldUnit t) (a .answer .space .players) (a .players .now)) g),
+        sym (ap (λ (t : UnitResult). beside (toldUnit t) (a .answer .space .counts) (a .space-counts .now)) g),
       ),
     )
 

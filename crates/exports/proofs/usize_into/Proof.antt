@@ -3,7 +3,7 @@ use mathlib.Core.Path.{sym, ap, _∙_}
 use borrow.Author.Needs.{needs}
 use Rattle.refusal.specs.Told.{toldUsize}
 use Rattle.refusal.specs.declared.UsizeResult.{UsizeResult}
-use Rattle.exports.specs.Status.{status, left}
+use Rattle.exports.specs.Status.{status, output}
 use Rattle.exports.proofs.usize_into.Statement.{statement}
 use Rattle.exports.proofs.usize_into.Tie as tie
 
@@ -23,7 +23,7 @@ returns-2 : tie.Need-returns-2
 returns-2 c =
     let g = c .before .before .answer2 .given .1 in (
       c .number .ensures ∙ sym (ap (λ (a : UsizeResult). status (toldUsize a)) g),
-      sym (ap (λ (a : UsizeResult). left (toldUsize a) (c .before .before .before .before .args .number .now)) g),
+      sym (ap (λ (a : UsizeResult). output (toldUsize a) (c .before .before .before .before .args .number .now)) g),
     )
 
 pub usize-into-spec : {M : Type 1} → statement M

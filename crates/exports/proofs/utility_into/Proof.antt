@@ -3,7 +3,7 @@ use mathlib.Core.Path.{sym, ap, _∙_}
 use borrow.Author.Needs.{needs}
 use Rattle.utility.specs.Value.{toldUtility}
 use Rattle.utility.specs.declared.UtilityResult.{UtilityResult}
-use Rattle.exports.specs.Status.{status, left}
+use Rattle.exports.specs.Status.{status, output}
 use Rattle.exports.proofs.utility_into.Statement.{statement}
 use Rattle.exports.proofs.utility_into.Tie as tie
 
@@ -26,7 +26,7 @@ returns-2 : tie.Need-returns-2
 returns-2 c =
     let g = c .before .before .answer2 .given .1 in (
       c .number .ensures ∙ sym (ap (λ (a : UtilityResult). status (toldUtility a)) g),
-      sym (ap (λ (a : UtilityResult). left (toldUtility a) (c .before .before .before .before .args .utility .now)) g),
+      sym (ap (λ (a : UtilityResult). output (toldUtility a) (c .before .before .before .before .args .utility .now)) g),
     )
 
 pub utility-into-spec : {M : Type 1} → statement M

@@ -1,0 +1,18 @@
+-- `replay::first_floats` is safe: the part ends within the list. Assumes nothing.
+use lib.ListN.{length-take}
+use borrow.Author.Needs.{needs}
+use native.Mathlib.Omega.{arith}
+use Rattle.replay.proofs.first_floats.Statement.{statement}
+use Rattle.replay.proofs.first_floats.Tie as tie
+
+slice-aggregate-result : tie.Need-slice-aggregate-result
+slice-aggregate-result c = rw length-take (omega arith)
+
+returns : tie.Need-returns
+returns c = search needs
+
+returns-2 : tie.Need-returns-2
+returns-2 c = search needs
+
+pub first-floats-spec : {M : Type 1} → statement M
+first-floats-spec = tie.close (tie.spec slice-aggregate-result returns returns-2)
