@@ -50,6 +50,7 @@ record Computed : Type 0 where
   nine-players : countsAnswer (replicate (suc maxPlayers) 0) ≡ refused 2
   none-then-many : countsAnswer (0 ∷ many ∷ []) ≡ refused 3
   many-then-none : countsAnswer (many ∷ 0 ∷ []) ≡ refused 4
+  many-and-too-many-cells : countsAnswer (maxStrategies ∷ maxStrategies ∷ maxStrategies ∷ many ∷ []) ≡ refused 4
   largest-count : countsAnswer (maxStrategies ∷ []) ≡ values maxStrategies
   largest-table : countsAnswer (8 ∷ 8 ∷ 16 ∷ 16 ∷ []) ≡ values 16384
   larger-table : countsAnswer (8 ∷ 8 ∷ 16 ∷ 17 ∷ []) ≡ refused 5
@@ -88,6 +89,7 @@ computed =
       nine-players = refl;
       none-then-many = refl;
       many-then-none = refl;
+      many-and-too-many-cells = refl;
       largest-count = refl;
       largest-table = refl;
       larger-table = refl;
