@@ -20,6 +20,7 @@ ghost use Rattle.exports.specs.Status.{status, output, beside, partStart
 
 // ---- an answer into its outputs
 
+// A number into `number`.
 fn usize_into(answer: UsizeResult, number: &mut usize) -> u32
     ensures { λ r. ⌜ r ≡ status (toldUsize answer) ⌝ }
     ensures { λ r. ⌜ now (number .exit) ≡ output (toldUsize answer) (now (number .entry)) ⌝ }
@@ -33,6 +34,7 @@ fn usize_into(answer: UsizeResult, number: &mut usize) -> u32
     }
 }
 
+// A utility's value into `utility`.
 fn utility_into(answer: UtilityResult, utility: &mut f64) -> u32
     ensures { λ r. ⌜ r ≡ status (toldUtility answer) ⌝ }
     ensures { λ r. ⌜ now (utility .exit) ≡ output (toldUtility answer) (now (utility .entry)) ⌝ }
@@ -46,6 +48,7 @@ fn utility_into(answer: UtilityResult, utility: &mut f64) -> u32
     }
 }
 
+// A space into `players` and `space_counts`.
 fn space_into(
     answer: SpaceResult,
     players: &mut usize,
@@ -70,6 +73,7 @@ fn space_into(
 
 // ---- the calls
 
+// `Utility::new`: the value into `utility`, or 7.
 #[no_mangle]
 pub extern "C" fn sigvanyor_utility_new(value: f64, utility: &mut f64) -> u32
     ensures { λ r. ⌜ r ≡ status (utilityAnswer value) ⌝ }
@@ -78,6 +82,7 @@ pub extern "C" fn sigvanyor_utility_new(value: f64, utility: &mut f64) -> u32
     utility_into(Utility::new(value), utility)
 }
 
+// `all_finite`: whether every value is finite.
 #[no_mangle]
 pub extern "C" fn sigvanyor_all_finite(values: &[f64]) -> bool
     ensures { λ r. ⌜ r ≡ all finite (now (values .entry)) ⌝ }
@@ -85,6 +90,7 @@ pub extern "C" fn sigvanyor_all_finite(values: &[f64]) -> bool
     utility::all_finite(values)
 }
 
+// `StrategySpace::from_counts`: P and the counts with 0 from P on into the outputs, or 1 to 5.
 #[no_mangle]
 pub extern "C" fn sigvanyor_from_counts(
     counts: &[usize],
@@ -98,6 +104,7 @@ pub extern "C" fn sigvanyor_from_counts(
     space_into(StrategySpace::from_counts(counts), players, space_counts)
 }
 
+// `payoff_matrix`: the same for a table, or 1 to 7.
 #[no_mangle]
 pub extern "C" fn sigvanyor_payoff_matrix_new(
     counts: &[usize],
@@ -112,6 +119,7 @@ pub extern "C" fn sigvanyor_payoff_matrix_new(
     space_into(table::payoff_matrix(counts, payoffs), players, space_counts)
 }
 
+// `offset`: the profile's offset into `offset`, or 1 to 7, 11, 12.
 #[no_mangle]
 pub extern "C" fn sigvanyor_offset(
     counts: &[usize],
@@ -125,6 +133,7 @@ pub extern "C" fn sigvanyor_offset(
     usize_into(table::offset(counts, payoffs, profile), offset)
 }
 
+// `payoff`: the player's payoff at the profile into `utility`, or 1 to 7, 8, 11, 12.
 #[no_mangle]
 pub extern "C" fn sigvanyor_payoff(
     counts: &[usize],
@@ -139,6 +148,7 @@ pub extern "C" fn sigvanyor_payoff(
     utility_into(table::payoff(counts, payoffs, profile, player), utility)
 }
 
+// `profile_payoffs`: the part's first place into `first` and its length into `number`, or 1 to 7, 11, 12.
 #[no_mangle]
 pub extern "C" fn sigvanyor_profile_payoffs(
     counts: &[usize],
@@ -161,6 +171,7 @@ pub extern "C" fn sigvanyor_profile_payoffs(
     }
 }
 
+// `advance_profile`: steps `profile` in place, and returns whether there was a next one.
 #[no_mangle]
 pub extern "C" fn sigvanyor_advance_profile(
     counts: &[usize],

@@ -8,7 +8,7 @@ use Rattle.game.specs.Finite.{product}
 use Rattle.game.specs.Game.{Game}
 use Rattle.utility.specs.Order.{rank}
 
--- cells in all: profiles × P
+-- cells in all: profiles × P. Cell is document 01's term: one payoff of the table
 abbrev pub cells : List ℕ → ℕ
 cells counts = product counts * length counts
 
@@ -20,7 +20,7 @@ offsetFrom n [] x = n
 offsetFrom n (c ∷ cs) [] = n
 offsetFrom n (c ∷ cs) (s ∷ x) = offsetFrom (n * c + s) cs x
 
--- a profile's offset: start at 0
+-- a profile's offset, document 01's term: start at 0
 unfoldable pub offset : List ℕ → List ℕ → ℕ
 offset counts x = offsetFrom 0 counts x
 

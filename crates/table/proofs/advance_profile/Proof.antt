@@ -23,10 +23,10 @@ loop-holds : tie.Need-loop-holds Inv-loop μ-loop
 loop-holds c =
     let cs = c .before .args .counts .now in
     let x = c .before .args .profile in
-    let eight : length x ≡ maxPlayers = c .before .good .1 .0 .1 .0 .1 in
+    let full : length x ≡ maxPlayers = c .before .good .1 .0 .1 .0 .1 in
     ⊎-elim
-    (λ w. (omega arith, omega arith, eight, step-few cs x (c .if1 .p) (omega arith)))
-    (λ w. (omega arith, omega arith, eight, ap (λ (l : List ℕ). step l x) (sym (take-all (c .if1 .p) cs (omega arith)))))
+    (λ w. (omega arith, omega arith, full, step-few cs x (c .if1 .p) (omega arith)))
+    (λ w. (omega arith, omega arith, full, ap (λ (l : List ℕ). step l x) (sym (take-all (c .if1 .p) cs (omega arith)))))
     (c .if1 .came)
 
 sub-p : tie.Need-sub-p Inv-loop μ-loop
