@@ -182,9 +182,16 @@ fn answer_space(status: u32, players: Output<1>, counts: Output<PLAYERS>) -> Ans
     )
 }
 
+/// A call of the library: each slice as a pointer and a length, and then the other arguments.
+macro_rules! call {
+    ($name:ident, [$($slice:ident),*] $(, $rest:expr)*) => {
+        unsafe { $name($($slice.as_ptr(), $slice.len(),)* $($rest),*) }
+    };
+}
+
 pub fn utility_new(value: f64) -> Answer<Bits> {
     let mut utility = Output::<1>::fresh();
-    let status = unsafe { sigvanyor_utility_new(value, utility.place()) };
+    let status = call!(sigvanyor_utility_new, [], value, utility.place());
     answer(status, utility.guarded(), utility.untouched(), || {
         Bits(utility.words[0])
     })
@@ -193,46 +200,30 @@ pub fn utility_new(value: f64) -> Answer<Bits> {
 pub fn from_counts(counts: &[usize]) -> Answer<Space> {
     let mut players = Output::fresh();
     let mut space_counts = Output::fresh();
-    let status = unsafe {
-        sigvanyor_from_counts(
-            counts.as_ptr(),
-            counts.len(),
-            players.place(),
-            space_counts.place(),
-        )
-    };
+    let status = call!(
+        sigvanyor_from_counts,
+        [counts],
+        players.place(),
+        space_counts.place()
+    );
     answer_space(status, players, space_counts)
 }
 
 pub fn payoff_matrix_new(counts: &[usize], payoffs: &[f64]) -> Answer<Space> {
     let mut players = Output::fresh();
     let mut space_counts = Output::fresh();
-    let status = unsafe {
-        sigvanyor_payoff_matrix_new(
-            counts.as_ptr(),
-            counts.len(),
-            payoffs.as_ptr(),
-            payoffs.len(),
-            players.place(),
-            space_counts.place(),
-        )
-    };
+    let status = call!(
+        sigvanyor_payoff_matrix_new,
+        [counts, payoffs],
+        players.place(),
+        space_counts.place()
+    );
     answer_space(status, players, space_counts)
 }
 
 pub fn offset(counts: &[usize], payoffs: &[f64], profile: &[usize]) -> Answer<usize> {
     let mut offset = Output::<1>::fresh();
-    let status = unsafe {
-        sigvanyor_offset(
-            counts.as_ptr(),
-            counts.len(),
-            payoffs.as_ptr(),
-            payoffs.len(),
-            profile.as_ptr(),
-            profile.len(),
-            offset.place(),
-        )
-    };
+    let status = call!(sigvanyor_offset, [counts, payoffs, profile], offset.place());
     answer(status, offset.guarded(), offset.untouched(), || {
         offset.numbers()[0]
     })
@@ -240,18 +231,12 @@ pub fn offset(counts: &[usize], payoffs: &[f64], profile: &[usize]) -> Answer<us
 
 pub fn payoff(counts: &[usize], payoffs: &[f64], profile: &[usize], player: usize) -> Answer<Bits> {
     let mut utility = Output::<1>::fresh();
-    let status = unsafe {
-        sigvanyor_payoff(
-            counts.as_ptr(),
-            counts.len(),
-            payoffs.as_ptr(),
-            payoffs.len(),
-            profile.as_ptr(),
-            profile.len(),
-            player,
-            utility.place(),
-        )
-    };
+    let status = call!(
+        sigvanyor_payoff,
+        [counts, payoffs, profile],
+        player,
+        utility.place()
+    );
     answer(status, utility.guarded(), utility.untouched(), || {
         Bits(utility.words[0])
     })
@@ -260,18 +245,12 @@ pub fn payoff(counts: &[usize], payoffs: &[f64], profile: &[usize], player: usiz
 pub fn profile_payoffs(counts: &[usize], payoffs: &[f64], profile: &[usize]) -> Answer<Part> {
     let mut first = Output::<1>::fresh();
     let mut length = Output::<1>::fresh();
-    let status = unsafe {
-        sigvanyor_profile_payoffs(
-            counts.as_ptr(),
-            counts.len(),
-            payoffs.as_ptr(),
-            payoffs.len(),
-            profile.as_ptr(),
-            profile.len(),
-            first.place(),
-            length.place(),
-        )
-    };
+    let status = call!(
+        sigvanyor_profile_payoffs,
+        [counts, payoffs, profile],
+        first.place(),
+        length.place()
+    );
     answer(
         status,
         first.guarded() && length.guarded(),
@@ -298,11 +277,11 @@ pub fn advance_profile(
 ) -> Answer<(bool, [usize; PLAYERS])> {
     let mut lent = Output::<PLAYERS>::fresh();
     lent.words = profile.map(|choice| choice as u64);
-    let more = unsafe { sigvanyor_advance_profile(counts.as_ptr(), counts.len(), lent.place()) };
+    let more = call!(sigvanyor_advance_profile, [counts], lent.place());
     truth(more, lent.guarded(), |more| (more, lent.numbers()))
 }
 
 pub fn all_finite(payoffs: &[f64]) -> Answer<bool> {
-    let all = unsafe { sigvanyor_all_finite(payoffs.as_ptr(), payoffs.len()) };
+    let all = call!(sigvanyor_all_finite, [payoffs]);
     truth(all, true, |all| all)
 }

@@ -1,10 +1,11 @@
--- What the outputs of a space are left with, by whether a refusal applies, and that C is told the part of `profile_payoffs`. Assumes nothing.
+-- What the outputs of a call are left with: an answer told into one, a space told into two, and the part that C is told, which is that of
+-- `profile_payoffs`. Assumes nothing.
 use mathlib.Core.Path.{_≡_}
 use mathlib.Core.List.{List}
 use mathlib.Core.Option.{none, some}
 use Prim.Native.Nat.{ℕ}
 use Rattle.refusal.specs.Refusal.{Refusal, _then_}
-use Rattle.refusal.specs.Told.{values, toldUnit, unless}
+use Rattle.refusal.specs.Told.{Told, values, toldUnit, unless}
 use Rattle.refusal.proofs.Told.{told-values}
 use lib.ListN.{take, drop}
 use lib.Ieee.{Float}
@@ -13,6 +14,10 @@ use Rattle.table.specs.Checks.{tableRefusal, profileRefusal}
 use Rattle.table.specs.Answers.{spaceOf, spaceUnless, profilePayoffs}
 use Rattle.table.specs.declared.SpaceResult.{SpaceResult}
 use Rattle.exports.specs.Status.{status, output, beside, partStart, partLength}
+
+-- an answer t told into an output, where t is u
+pub told-into : {A : Type 0} (t u : Told A) (n : ℕ) (new old : A) → t ≡ u → (n ≡ status t) × (new ≡ output t old) → (n ≡ status u) × (new ≡ output u old)
+told-into t u n new old e h = rw e at h
 
 -- a space told beside its answer is told through the outputs
 pub space-output : (r : Refusal) (cs : List ℕ) (a : SpaceResult) → toldUnit (a .answer) ≡ unless r tt → a .space ≡ spaceUnless r cs

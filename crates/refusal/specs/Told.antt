@@ -8,6 +8,7 @@ use Rattle.refusal.specs.declared.UnitResult.the-variants.{Ok as ok, Err
 use Rattle.refusal.specs.declared.UsizeResult.{UsizeResult}
 use Rattle.refusal.specs.declared.UsizeResult.the-variants.{Ok, Err}
 
+-- an answer with values of type A
 pub data Told (A : Type 0) : Type 0 where
   values : A → Told A
   refused : ℕ → Told A
@@ -17,6 +18,7 @@ abbrev pub unless : {A : Type 0} → Refusal → A → Told A
 unless none v = values v
 unless (some e) v = refused (numberOf e)
 
+-- what the code's answers tell
 abbrev pub toldUnit : UnitResult → Told (Unit {0})
 toldUnit ok = values tt
 toldUnit (err e) = refused (numberOf e)

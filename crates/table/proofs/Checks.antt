@@ -26,6 +26,7 @@ use Rattle.table.specs.Meaning.{Shape, Table}
 
 -- ---- one count
 
+-- a count of 0, one over the limit, and one that is neither
 pub count-zero : (c : ℕ) → c ≡ 0 → countRefusal c ≡ some NoStrategies
 unfolding countRefusal
 count-zero c h = rw (eq-eqb c 0 h)
@@ -38,7 +39,7 @@ pub count-fits : (c : ℕ) → 0 < c → c ≤ maxStrategies → countRefusal c 
 unfolding countRefusal
 count-fits c h k = rw (ne-eqb c 0 (omega arith), le-ltb maxStrategies c k)
 
--- a count without a refusal
+-- what a count without a refusal is
 pub fits-count : (c : ℕ) → countRefusal c ≡ none → (0 < c) × (c ≤ maxStrategies)
 unfolding countRefusal
 fits-count c h =
@@ -50,6 +51,7 @@ fits-count c h =
 -- ---- the counts
 
 module _ (counts : List ℕ) where
+  -- no players, more than the limit, and a first count that is refused
   pub no-players : length counts ≡ 0 → countsRefusal counts ≡ some NoPlayers
   unfolding countsRefusal
   no-players h = rw (eq-eqb (length counts) 0 h)
@@ -65,6 +67,7 @@ module _ (counts : List ℕ) where
       rw (ne-eqb (length counts) 0 (omega arith), le-ltb maxPlayers (length counts) h, each-some (length counts) (λ p. countRefusal (getD counts p 0)) p e l k g)
 
   module _ (some' : 0 < length counts) (few : length counts ≤ maxPlayers) (each' : (p : ℕ) → p < length counts → countRefusal (getD counts p 0) ≡ none) where
+    -- more cells than the limit, and no refusal
     pub many-cells : maxCells < cells counts → countsRefusal counts ≡ some TooManyCells
     unfolding countsRefusal
     many-cells h =
@@ -99,6 +102,7 @@ module _ (counts : List ℕ) where
 
 module _ (counts : List ℕ) (payoffs : List Float) where
   module _ (shape : countsRefusal counts ≡ none) where
+    -- a wrong number of payoffs, one that is not finite, and no refusal
     pub wrong-size : (length payoffs ≡ cells counts → ⊥) → tableRefusal counts payoffs ≡ some PayoffCount
     unfolding tableRefusal payoffsRefusal
     wrong-size h = rw (shape, ne-eqb (length payoffs) (cells counts) h)
@@ -142,6 +146,7 @@ pub choice-over : (c s : ℕ) → c ≤ s → when (not (ltb s c)) InvalidStrate
 choice-over c s h = rw (le-ltb s c h)
 
 module _ (counts x : List ℕ) where
+  -- a wrong number of choices, and a first choice that is not below its count
   pub wrong-length : (length x ≡ length counts → ⊥) → profileRefusal counts x ≡ some ProfileCount
   unfolding profileRefusal
   wrong-length h = rw (ne-eqb (length x) (length counts) h)
