@@ -1,13 +1,14 @@
 -- What the tests of specs/Finite say, as propositions, and what the members and the length of each list are.
 use mathlib.Core.Path.{_≡_, refl, ap, _∙_}
 use mathlib.Core.Bool.{Bool, true, false, not, cond, _&&_}
-use mathlib.Core.List.{List, [], _∷_, map, flatMap, map-map, List·Memᴰ·head as here, List·Memᴰ·tail as there, List·Memᴰ·not-nil as not-in-nil, List·Memᴰ·cases-cons as in-cons, List·Memᴰ·append-cases as in-append, List·Memᴰ·eq-of-singleton as in-singleton, Memᴰ·append-left as append-left, Memᴰ·append-right as append-right, Memᴰ·map as to-map, Memᴰ·of-map as of-map}
+use mathlib.Core.List.{List, [], _∷_, _++_, map, flatMap, map-map, map-append, append-nil, List·Memᴰ·head as here, List·Memᴰ·tail as there, List·Memᴰ·not-nil as not-in-nil, List·Memᴰ·cases-cons as in-cons, List·Memᴰ·append-cases as in-append, List·Memᴰ·eq-of-singleton as in-singleton, Memᴰ·append-left as append-left, Memᴰ·append-right as append-right, Memᴰ·map as to-map, Memᴰ·of-map as of-map}
 use mathlib.Core.Logic.{_↔_, _⊎_, inl, inr, ⊎-elim, Iff·rfl}
 use Prim.Native.Nat.{ℕ, zero, suc, _+_, _*_, _≤_, _<_}
-use native.Mathlib.Nat.{not-suc-le-zero, le-of-suc-le-suc, zero-mul, suc-mul, add-comm}
+use native.Mathlib.Nat.{not-suc-le-zero, le-of-suc-le-suc, eq-or-lt-of-le, zero-mul, suc-mul, add-comm}
+use native.Mathlib.Numerals.{add-one}
 use native.Mathlib.Omega.{arith}
 use lib.Dec.{T, leb, ltb, eqb, leb→le, ltb→lt, lt→ltb, eqb→eq, eqb-refl, nleb→lt, T-not, not-T}
-use lib.ListN.{length, getD, length-append, length-map}
+use lib.ListN.{length, getD, take, length-append, length-map}
 use Rattle.game.specs.Finite.{_⇒_, _∈_, below, sum, all, filter, empty}
 
 -- ---- tests
@@ -77,6 +78,12 @@ pub map-below : (l : List ℕ) → map (λ i. getD l i 0) (below (length l)) ≡
 map-below [] = refl
 map-below (x ∷ xs) = ap {B = List ℕ} (λ ys. x ∷ ys) (map-map (λ i. getD (x ∷ xs) i 0) suc (below (length xs)) ∙ map-below xs)
 
+-- one more stands at the end
+pub below-last : (n : ℕ) → below (suc n) ≡ below n ++ (n ∷ [])
+below-last zero = refl
+below-last (suc n) =
+    ap {B = List ℕ} (λ ys. 0 ∷ map suc ys) (below-last n) ∙ ap {B = List ℕ} (λ ys. 0 ∷ ys) (map-append suc (below n) (n ∷ []))
+
 -- ---- tests of a list, and the elements that pass one
 
 module _ {A : Type 0} where
@@ -111,6 +118,23 @@ module _ {A : Type 0} where
   filter-cong f h [] e = refl
   filter-cong f h (y ∷ ys) e = rw (e y (here refl), filter-cong f h ys (λ x k. e x (there k)))
 
+  pub filter-at-most : (f : A → Bool) (xs : List A) → length (filter f xs) ≤ length xs
+  filter-at-most f [] = omega arith
+  filter-at-most f (x ∷ xs) = step (f x) (filter-at-most f xs)
+    where
+      step : (b : Bool) → length (filter f xs) ≤ length xs → length (cond b (x ∷ filter f xs) (filter f xs)) ≤ suc (length xs)
+      step true h = omega arith
+      step false h = omega arith
+
+  pub filter-append : (f : A → Bool) (xs ys : List A) → filter f (xs ++ ys) ≡ filter f xs ++ filter f ys
+  filter-append f [] ys = refl
+  filter-append f (x ∷ xs) ys = rw (filter-append f xs ys) (step (f x))
+    where
+      step : (b : Bool)
+          → cond b (x ∷ (filter f xs ++ filter f ys)) (filter f xs ++ filter f ys) ≡ cond b (x ∷ filter f xs) (filter f xs) ++ filter f ys
+      step true = refl
+      step false = refl
+
   -- of a list that is not empty, some element is the greatest by a measure
   pub greatest : (f : A → ℕ) (xs : List A) (x : A) → x ∈ xs → (y : A) × (y ∈ xs) × ((z : A) → z ∈ xs → f z ≤ f y)
   greatest f [] x h = absurd (not-in-nil h)
@@ -122,6 +146,40 @@ module _ {A : Type 0} where
     where
       over : (y z : A) → f w ≤ f y → (z ∈ v ∷ vs → f z ≤ f y) → z ∈ w ∷ v ∷ vs → f z ≤ f y
       over y z l most j = ⊎-elim (λ (e : z ≡ w). rw e l) most (in-cons j)
+
+-- what passes of the numbers below n + 1: n too, or no more than below n
+module _ (f : ℕ → Bool) (n : ℕ) where
+  filter-last : filter f (below (n + 1)) ≡ filter f (below n) ++ cond (f n) (n ∷ []) []
+  filter-last =
+      ap (λ (m : ℕ). filter f (below m)) (add-one n) ∙ ap (filter f) (below-last n) ∙ filter-append f (below n) (n ∷ [])
+
+  pub filter-yes : f n ≡ true → filter f (below (n + 1)) ≡ filter f (below n) ++ (n ∷ [])
+  filter-yes h = filter-last ∙ ap (λ (b : Bool). filter f (below n) ++ cond b (n ∷ []) []) h
+
+  pub filter-not : f n ≡ false → filter f (below (n + 1)) ≡ filter f (below n)
+  filter-not h = filter-last ∙ ap (λ (b : Bool). filter f (below n) ++ cond b (n ∷ []) []) h ∙ append-nil (filter f (below n))
+
+  filter-step : length (filter f (below n)) ≤ length (filter f (below (n + 1)))
+  filter-step = omega (arith, ap length filter-last, length-append (filter f (below n)) (cond (f n) (n ∷ []) []))
+
+-- no fewer pass of more numbers
+pub filter-grows : (f : ℕ → Bool) (m n : ℕ) → m ≤ n → length (filter f (below m)) ≤ length (filter f (below n))
+filter-grows f m zero h = let e : m ≡ 0 = omega arith in rw e (omega arith)
+filter-grows f m (suc n) h =
+    ⊎-elim (λ (e : m ≡ suc n). rw e (omega arith))
+    (λ (l : m < suc n). omega (arith, filter-grows f m n (le-of-suc-le-suc l), rw (add-one n) at (filter-step f n)))
+    (eq-or-lt-of-le h)
+
+-- ---- a function over a list, and the first elements of one
+
+pub map-cong : {A B : Type 0} (f h : A → B) (xs : List A) → ((x : A) → x ∈ xs → f x ≡ h x) → map f xs ≡ map h xs
+map-cong f h [] e = refl
+map-cong f h (y ∷ ys) e = rw (e y (here refl), map-cong f h ys (λ x k. e x (there k)))
+
+pub take-mem : {A : Type 0} (n : ℕ) (xs : List A) (x : A) → x ∈ take n xs → x ∈ xs
+take-mem zero xs x h = absurd (not-in-nil h)
+take-mem (suc n) [] x h = h
+take-mem (suc n) (y ∷ ys) x h = ⊎-elim here (λ k. there (take-mem n ys x k)) (in-cons h)
 
 -- ---- lists joined
 

@@ -10,11 +10,11 @@ use native.Mathlib.Omega.{arith}
 use lib.Dec.{T}
 use lib.ListN.{set}
 use lib.Seq.{set-getD, set-set}
-use Rattle.game.specs.Finite.{_∈_, below, filter, empty, first, Lists, First}
+use Rattle.game.specs.Finite.{_∈_, all, below, filter, empty, first, Lists, First}
 use Rattle.game.specs.Game.{Game, players, count, Playable, Strategy, strategy, strategies, Sooner, choice, Profile, profiles, Earlier, Marks, whole}
 use Rattle.game.specs.Solution.{dominates, dominators, dominator, gains, deviations, deviation, bestResponse, bestResponses, equilibrium, equilibria}
 use Rattle.game.specs.Meaning.{Has, Inside, Dominates, Dominator, Gains, Best, Equilibrium}
-use Rattle.game.proofs.Finite.{and-T, imp-T, no-T, ltb-T, eqb-T, at-most, below-mem, all-T, empty-T, filter-mem, greatest}
+use Rattle.game.proofs.Finite.{and-T, imp-T, no-T, ltb-T, eqb-T, at-most, below-mem, all-T, empty-T, same-test, filter-mem, greatest}
 use Rattle.game.proofs.Sorted.{lists-iff, lists-filter, first-law, below-law, less-asym}
 use Rattle.game.proofs.Game.{sooner-asym, strategies-law, profiles-law, whole-law, inside-law, others-law}
 
@@ -105,6 +105,22 @@ module _ (g : Game) (m : Marks) where
         let best : (p : ℕ) → p < players g → Best g m p x (choice x p) = λ p l. bestResponses-law p x .members (choice x p) .0 (h p l) .1 in
         equilibrium-law x .1 (λ p l. best p l .0, λ p t l f k. rw (set-getD x p 0) at (best p l .1 t f k)),
   )
+
+  -- and so it is one exactly when the test of each player's choice passes
+  pub equilibrium-each : (x : List ℕ) → Profile (g .counts) x
+      → equilibrium g m x ≡ all (λ p. bestResponse g m p x (choice x p)) (below (players g))
+  equilibrium-each x r =
+      same-test (equilibrium g m x) (all (λ p. bestResponse g m p x (choice x p)) (below (players g)))
+      (simp (all-T, below-mem) (
+        λ h p l. bestResponse-law p x (choice x p) .1 (bestResponses-law p x .members (choice x p) .0 (equilibrium-best x r .0 h p l) .1),
+        λ h. equilibrium-best x r .1 (λ p l. bestResponses-law p x .members (choice x p) .1 (r .fits p l, bestResponse-law p x (choice x p) .0 (h p l))),
+      ))
+
+  -- the list has just the profiles that are equilibria
+  pub equilibrium-listed : (x : List ℕ) → Profile (g .counts) x → T (equilibrium g m x) ↔ (x ∈ equilibria g m)
+  unfolding equilibria
+  equilibrium-listed x r =
+      let is = filter-mem (equilibrium g m) (profiles (g .counts)) x in (λ h. is .1 (profiles-law (g .counts) .members x .1 r, h), λ h. is .0 h .1)
 
   -- whatever the others choose, a player with a marked strategy has a best response
   pub best-exists : (p : ℕ) (x : List ℕ) (s : ℕ) → s < count g p → T (m p s) → (b : ℕ) × (b ∈ bestResponses g m p x)

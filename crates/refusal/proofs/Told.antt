@@ -6,11 +6,13 @@ use Prim.Native.Nat.{ℕ}
 use native.Mathlib.Omega.{arith}
 use Rattle.refusal.specs.Refusal.{Refusal, numberOf, _then_}
 use Rattle.refusal.specs.declared.NormalFormError.{NormalFormError}
-use Rattle.refusal.specs.Told.{values, refused, unless, toldUnit, toldUsize}
+use Rattle.refusal.specs.Told.{values, refused, unless, toldUnit, toldUsize, toldBool}
 use Rattle.refusal.specs.declared.UnitResult.{UnitResult}
 use Rattle.refusal.specs.declared.UnitResult.the-variants.{Ok as ok, Err as err}
 use Rattle.refusal.specs.declared.UsizeResult.{UsizeResult}
 use Rattle.refusal.specs.declared.UsizeResult.the-variants.{Ok, Err}
+use Rattle.refusal.specs.declared.BoolResult.{BoolResult}
+use Rattle.refusal.specs.declared.BoolResult.the-variants.{Ok as okBool, Err as errBool}
 use Rattle.refusal.proofs.Refusal.{number-once}
 
 module _ {A : Type 0} where
@@ -50,3 +52,9 @@ told-usize-once (Ok m) (Ok n) h = ap Ok (cc)
 told-usize-once (Ok m) (Err e) h = absurd (apart m (numberOf e) h)
 told-usize-once (Err d) (Ok n) h = absurd (apart n (numberOf d) (sym h))
 told-usize-once (Err d) (Err e) h = ap Err (number-once d e (cc))
+
+pub told-bool-once : (r s : BoolResult) → toldBool r ≡ toldBool s → r ≡ s
+told-bool-once (okBool a) (okBool b) h = ap okBool (cc)
+told-bool-once (okBool a) (errBool e) h = absurd (apart a (numberOf e) h)
+told-bool-once (errBool d) (okBool b) h = absurd (apart b (numberOf d) (sym h))
+told-bool-once (errBool d) (errBool e) h = ap errBool (number-once d e (cc))

@@ -1,12 +1,17 @@
 -- What an answer tells: values, or a refusal's number alone. Every contract of the library speaks of answers through this type.
 -- Assumes nothing.
-use mathlib.Core.Option.{none, some}
+use mathlib.Core.Bool.{Bool}
+use mathlib.Core.Option.{Option, none, some}
 use Prim.Native.Nat.{ℕ}
 use Rattle.refusal.specs.Refusal.{Refusal, numberOf}
 use Rattle.refusal.specs.declared.UnitResult.{UnitResult}
 use Rattle.refusal.specs.declared.UnitResult.the-variants.{Ok as ok, Err as err}
 use Rattle.refusal.specs.declared.UsizeResult.{UsizeResult}
 use Rattle.refusal.specs.declared.UsizeResult.the-variants.{Ok, Err}
+use Rattle.refusal.specs.declared.BoolResult.{BoolResult}
+use Rattle.refusal.specs.declared.BoolResult.the-variants.{Ok as okBool, Err as errBool}
+use Rattle.refusal.specs.declared.UsizeOption.{UsizeOption}
+use Rattle.refusal.specs.declared.UsizeOption.the-variants.{None, Some}
 
 -- an answer with values of type A
 pub data Told (A : Type 0) : Type 0 where
@@ -26,3 +31,12 @@ toldUnit (err e) = refused (numberOf e)
 abbrev pub toldUsize : UsizeResult → Told ℕ
 toldUsize (Ok n) = values n
 toldUsize (Err e) = refused (numberOf e)
+
+abbrev pub toldBool : BoolResult → Told Bool
+toldBool (okBool b) = values b
+toldBool (errBool e) = refused (numberOf e)
+
+-- a number or none
+abbrev pub optionUsize : UsizeOption → Option ℕ
+optionUsize None = none
+optionUsize (Some n) = some n

@@ -1,5 +1,5 @@
 // The refusals of document 01, each with its number, and the answers that hold one.
-// Rust's `Result<T, NormalFormError>` is an enum for each T: `Ok` with the value, or `Err` with the refusal.
+// Rust's `Result<T, NormalFormError>` is an enum for each T: `Ok` with the value, or `Err` with the refusal. So is its `Option<usize>`.
 ghost use mathlib.Core.Path.{_≡_};
 ghost use Rattle.refusal.specs.Refusal.{numberOf};
 
@@ -68,4 +68,16 @@ pub enum UnitResult {
 pub enum UsizeResult {
     Ok(usize),
     Err(NormalFormError),
+}
+
+// Rust's `Result<bool, NormalFormError>`.
+pub enum BoolResult {
+    Ok(bool),
+    Err(NormalFormError),
+}
+
+// Rust's `Option<usize>`.
+pub enum UsizeOption {
+    None,
+    Some(usize),
 }

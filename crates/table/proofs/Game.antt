@@ -1,16 +1,17 @@
 -- The game that a table is: its players and counts are the table's, every player has a strategy, and a player is paid less at one profile
--- than at another exactly where IEEE 754's `<` says so of the two payoffs. Assumes nothing.
-use mathlib.Core.Path.{_≡_, refl, sym}
+-- than at another exactly where IEEE 754's `<` says so of the two payoffs, and utilities read from cells compare as the cells' ranks.
+-- Assumes nothing.
+use mathlib.Core.Path.{_≡_, refl, sym, ap₂, _∙_}
 use mathlib.Core.List.{List}
 use Prim.Native.Nat.{ℕ, _<_}
 use lib.Dec.{T, ltb, eqb}
 use lib.ListN.{length, getD}
 use lib.Ieee.{Float, nan, binary64, fits, lt, eq}
 use Rattle.game.specs.Game.{players, count, Playable, Profile}
-use Rattle.utility.specs.Order.{finite}
-use Rattle.utility.proofs.Laws.{lt-rank, eq-rank}
-use Rattle.table.specs.Table.{payoffAt, cell, tableGame}
-use Rattle.table.specs.Meaning.{Shape, Table}
+use Rattle.utility.specs.Order.{finite, greater}
+use Rattle.utility.proofs.Laws.{lt-rank, eq-rank, greater-rank}
+use Rattle.table.specs.Table.{payoffAt, cell, cellRank, tableGame}
+use Rattle.table.specs.Meaning.{Shape, Finites, Table}
 use Rattle.table.proofs.Offsets.{cell-below}
 
 module _ (counts : List ℕ) (payoffs : List Float) where
@@ -49,3 +50,11 @@ module _ (counts : List ℕ) (payoffs : List Float) where
         → eqb (tableGame counts payoffs .pay p x) (tableGame counts payoffs .pay p y) ≡ eq (payoffAt counts payoffs p x) (payoffAt counts payoffs p y)
     unfolding tableGame
     pay-equal r q = sym (eq-rank _ _ (held-here r) (held-here q) (finite-here r) (finite-here q))
+
+-- Two values that were read from cells of finite payoffs compare as the ranks of the cells.
+pub cells-greater : (payoffs : List Float) → Finites payoffs → ((i : ℕ) → T (fits binary64 (getD payoffs i nan)))
+    → {x y : Float} (i j : ℕ) → i < length payoffs → j < length payoffs → x ≡ getD payoffs i nan → y ≡ getD payoffs j nan
+    → greater x y ≡ ltb (cellRank payoffs j) (cellRank payoffs i)
+unfolding cellRank
+cells-greater payoffs finites held i j h k e f =
+    ap₂ greater e f ∙ greater-rank (getD payoffs i nan) (getD payoffs j nan) (held i) (held j) (finites i h) (finites j k)

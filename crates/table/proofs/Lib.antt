@@ -5,5 +5,7 @@ pub mod Space
 pub mod Offsets
 pub mod Step
 pub mod Table
+pub mod Outputs
+pub mod Walk
 pub mod Game
 pub mod Computed

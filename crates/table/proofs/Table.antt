@@ -8,6 +8,7 @@ use native.Mathlib.Omega.{arith}
 use lib.ListN.{length, getD, drop, length-drop}
 use lib.Seq.{length-take-le, getD-take, getD-drop}
 use lib.Ieee.{Float, nan}
+use Rattle.game.specs.Finite.{product}
 use Rattle.game.specs.Game.{Profile}
 use Rattle.refusal.specs.Refusal.{_then_}
 use Rattle.refusal.specs.Told.{values}
@@ -17,7 +18,7 @@ use Rattle.table.specs.Limits.{maxCells}
 use Rattle.table.specs.Table.{cells, offset, payoffAt, profilePart}
 use Rattle.table.specs.Checks.{tableRefusal, profileRefusal}
 use Rattle.table.specs.Meaning.{Table}
-use Rattle.table.specs.Answers.{offsetAnswer}
+use Rattle.table.specs.Answers.{tableAnswer, offsetAnswer}
 use Rattle.table.proofs.Checks.{table-law, profile-law}
 use Rattle.table.proofs.Offsets.{offset-below}
 
@@ -37,6 +38,17 @@ module _ {cs x : List ℕ} (r : Profile cs x) (payoffs : List Float) (whole : le
   unfolding profilePart
   part-length =
       length-take-le (length cs) (drop (offset cs x * length cs) payoffs) (rw length-drop (omega (arith, part-within)))
+
+-- a caller that was told the number of profiles: no refusal applies
+pub record TableTold (counts : List ℕ) (payoffs : List Float) (n : ℕ) : Type 0 where
+  pub none-applies : tableRefusal counts payoffs ≡ none
+  pub table : Table counts payoffs
+  pub is : n ≡ product counts
+
+pub table-told : (counts : List ℕ) (payoffs : List Float) (n : ℕ) → values n ≡ tableAnswer counts payoffs → TableTold counts payoffs n
+table-told counts payoffs n h =
+    let told = told-values (tableRefusal counts payoffs) (product counts) n h in
+    record { none-applies = told .0; table = table-law counts payoffs .0 (told .0); is = told .1 }
 
 -- a caller that was told an offset: no refusal applies, and the part of P payoffs at offset × P lies within the payoffs
 pub record PartTold (counts : List ℕ) (payoffs : List Float) (x : List ℕ) (n : ℕ) : Type 0 where

@@ -17,8 +17,12 @@ pub record Shape (counts : List ℕ) : Type 0 where
   pub high : (p : ℕ) → p < length counts → getD counts p 0 ≤ maxStrategies
   pub room : cells counts ≤ maxCells
 
+-- every payoff is finite
+abbrev pub Finites : List Float → Type 0
+Finites payoffs = (i : ℕ) → i < length payoffs → T (finite (getD payoffs i nan))
+
 -- a table with none of refusals 1 to 7
 pub record Table (counts : List ℕ) (payoffs : List Float) : Type 0 where
   pub shape : Shape counts
   pub full : length payoffs ≡ cells counts
-  pub finites : (i : ℕ) → i < length payoffs → T (finite (getD payoffs i nan))
+  pub finites : Finites payoffs

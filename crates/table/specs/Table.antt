@@ -38,6 +38,10 @@ cell counts x p = offset counts x * length counts + p
 unfoldable pub payoffAt : List ℕ → List Float → ℕ → List ℕ → Float
 payoffAt counts payoffs p x = getD payoffs (cell counts x p) nan
 
+-- a cell's rank
+unfoldable pub cellRank : List Float → ℕ → ℕ
+cellRank payoffs i = rank (getD payoffs i nan)
+
 -- the payoffs of one profile, as a part of the table: the P payoffs at offset × P
 unfoldable pub profilePart : List ℕ → List Float → List ℕ → List Float
 profilePart counts payoffs x = take (length counts) (drop (offset counts x * length counts) payoffs)

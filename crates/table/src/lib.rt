@@ -7,10 +7,14 @@ use utility::Utility;
 use utility::UtilityResult;
 ghost use mathlib.Core.Path.{_≡_};
 ghost use mathlib.Core.Option.{none};
+ghost use Prim.Native.Nat.{_<_};
+ghost use lib.Dec.{ltb};
+ghost use lib.ListN.{length};
 ghost use Rattle.refusal.specs.Told.{toldUnit, toldUsize, unless};
 ghost use Rattle.utility.specs.Value.{toldUtility};
-ghost use Rattle.table.specs.Table.{offset};
+ghost use Rattle.table.specs.Table.{offset, stride, cellRank};
 ghost use Rattle.table.specs.Step.{step};
+ghost use Rattle.table.specs.Meaning.{Shape, Finites};
 ghost use Rattle.table.specs.Checks.{countsRefusal, tableRefusal, profileRefusal};
 ghost use Rattle.table.specs.Answers.{places, spaceUnless, spaceResult, countsAnswer, tableAnswer, offsetAnswer, payoffAnswer, profilePayoffs};
 
@@ -20,6 +24,8 @@ pub const MAX_PLAYERS: usize = 8;
 pub const MAX_STRATEGIES: usize = 64;
 
 pub const MAX_CELLS: usize = 65536;
+
+pub const MAX_MARKS: usize = MAX_PLAYERS * MAX_STRATEGIES;
 
 // The players of a table and how many strategies each has. As `from_counts` makes it, a place from `players` on holds 0.
 pub struct StrategySpace {
@@ -238,4 +244,31 @@ pub fn advance_profile(counts: &[usize], profile: [usize; MAX_PLAYERS]) -> Advan
         more: false,
         profile: next,
     }
+}
+
+// ---- for walks over a table, by crates that have checked it
+
+// Whether the payoff of one cell exceeds that of another. The caller proves that both are cells and that every payoff is finite.
+pub fn exceeds(payoffs: &[f64], cell: usize, other: usize) -> bool
+    requires { ⌜ (cell < length (now payoffs)) × (other < length (now payoffs)) ⌝ }
+    requires { ⌜ Finites (now payoffs) ⌝ }
+    ensures { λ r. ⌜ r ≡ ltb (cellRank (now (payoffs .entry)) other) (cellRank (now (payoffs .entry)) cell) ⌝ }
+{
+    let mine = Utility::of_finite(payoffs[cell]);
+    mine.exceeds(Utility::of_finite(payoffs[other]))
+}
+
+// How far the offset moves when the player's choice goes up by one. The caller proves that the counts have none of refusals 1 to 5.
+pub fn stride(counts: &[usize], player: usize) -> usize
+    requires { ⌜ Shape (now counts) ⌝ }
+    requires { ⌜ player < length (now counts) ⌝ }
+    ensures { λ r. ⌜ r ≡ stride (now (counts .entry)) player ⌝ }
+{
+    let mut stride: usize = 1;
+    let mut p = counts.len();
+    while player + 1 < p {
+        p -= 1;
+        stride *= counts[p];
+    }
+    stride
 }

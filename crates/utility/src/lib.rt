@@ -1,6 +1,7 @@
 // Utilities: payoffs that have passed the finite check, compared as their order keys are.
 use refusal::NormalFormError;
 ghost use mathlib.Core.Path.{_≡_};
+ghost use lib.Dec.{T};
 ghost use Rattle.game.specs.Finite.{all};
 ghost use Rattle.utility.specs.Order.{finite, greater, equal};
 ghost use Rattle.utility.specs.Value.{valueOf, toldUtility, utilityAnswer};
@@ -24,6 +25,14 @@ impl Utility {
         } else {
             UtilityResult::Err(NormalFormError::NonFiniteUtility)
         }
+    }
+
+    // The utility of a value whose check is a proof: the caller proves that it is finite, and nothing is tested when it runs.
+    pub fn of_finite(value: f64) -> Utility
+        requires { ⌜ T (finite value) ⌝ }
+        ensures { λ r. ⌜ valueOf r ≡ value ⌝ }
+    {
+        Utility(value)
     }
 
     // The value that the utility holds.

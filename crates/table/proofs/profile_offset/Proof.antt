@@ -2,7 +2,6 @@
 -- the product of the counts before p; and the choices before p are below their counts. Assumes nothing.
 use mathlib.Core.Path.{_≡_, refl, sym, _∙_}
 use Prim.Native.Nat.{ℕ, _+_, _*_, _-_, _<_, _≤_}
-use native.Mathlib.Nat.{le-mul-of-pos-right}
 use native.Mathlib.Omega.{arith}
 use borrow.Author.Count.{below-more}
 use lib.ListN.{length, getD, take, drop}
@@ -10,11 +9,10 @@ use lib.Seq.{drop-length}
 use Rattle.game.specs.Finite.{product}
 use Rattle.game.specs.Game.{choice, Profile}
 use Rattle.table.specs.Table.{offset, offsetFrom}
-use Rattle.table.specs.Limits.{maxCells}
 use Rattle.table.specs.Meaning.{Shape}
 use Rattle.table.proofs.Checks.{counts-law, wrong-length, bad-choice, profile-law}
-use Rattle.table.proofs.Products.{product-positive}
-use Rattle.table.proofs.Offsets.{take-at-most, offset-more, offset-so-far}
+use Rattle.table.proofs.Offsets.{offset-more, offset-so-far}
+use Rattle.table.proofs.Walk.{offset-room}
 use Rattle.table.proofs.profile_offset.Statement.{statement}
 use Rattle.table.proofs.profile_offset.Tie as tie
 
@@ -28,18 +26,9 @@ Inv-loop counts profile players at₀ p₀ at p =
 abbrev μ-loop : tie.MeasureT-loop
 μ-loop counts profile players at₀ p₀ at p = length counts - p
 
--- what the counts are, and that a part's offset is below 65,536
+-- what the counts are
 start : (c : tie.Start Inv-loop μ-loop) → Shape (c .args .counts .now)
 start c = counts-law (c .args .counts .now) .0 (c .pre)
-
--- the offset so far, with player p's choice
-next : (c : tie.Start Inv-loop μ-loop) (n s p : ℕ)
-    → p < length (c .args .counts .now) → n < product (take p (c .args .counts .now)) → s < getD (c .args .counts .now) p 0
-    → n * getD (c .args .counts .now) p 0 + s ≤ maxCells
-next c n s p l h k =
-    let cs = c .args .counts .now in
-    let some : 0 < product cs = product-positive cs (start c .low) in
-    omega (arith, offset-so-far n s p cs l h k, take-at-most cs (p + 1) some, le-mul-of-pos-right (product cs) (start c .some), start c .room)
 
 returns : tie.Need-returns Inv-loop μ-loop
 returns c = rw (wrong-length (c .before .args .counts .now) (c .before .args .profile .now) (c .if1 .taken))
@@ -69,12 +58,12 @@ returns-2 c =
 mul-at : tie.Need-mul-at Inv-loop μ-loop
 mul-at c =
     let l = c .before .before .before .before .loop in
-    omega (arith, next (c .before .before .before .before .before .before) (l .at) _ (l .p) (omega arith) (l .inv .1) (c .if2 .left))
+    omega (arith, offset-room (start (c .before .before .before .before .before .before)) (l .at) _ (l .p) (omega arith) (l .inv .1) (c .if2 .left))
 
 add-at : tie.Need-add-at Inv-loop μ-loop
 add-at c =
     let l = c .before .before .before .before .loop in
-    omega (arith, next (c .before .before .before .before .before .before) (l .at) _ (l .p) (omega arith) (l .inv .1) (c .if2 .left))
+    omega (arith, offset-room (start (c .before .before .before .before .before .before)) (l .at) _ (l .p) (omega arith) (l .inv .1) (c .if2 .left))
 
 add-p : tie.Need-add-p Inv-loop μ-loop
 add-p c = omega arith

@@ -1,0 +1,47 @@
+-- Writing a list into an output one element after the other, and whether two outputs have room. Assumes nothing.
+use mathlib.Core.Path.{_≡_, sym, ap, _∙_}
+use mathlib.Core.List.{List, [], _∷_, _++_}
+use mathlib.Core.Option.{none, some}
+use Prim.Native.Nat.{ℕ, suc, _+_, _-_, _≤_, _<_}
+use native.Mathlib.Numerals.{add-one}
+use native.Mathlib.Omega.{arith}
+use borrow.Author.Tests.{lt-ltb, le-ltb}
+use lib.ListN.{length, getD, set, take, drop, length-append, length-drop}
+use lib.Seq.{drop-cons, set-append-seam, append-snoc, take-suc, length-take-le}
+use Rattle.refusal.specs.declared.NormalFormError.the-variants.{OutputTooShort}
+use Rattle.table.specs.Outputs.{roomRefusal, over}
+
+module _ {A : Type 0} where
+  -- The output keeps its length.
+  pub over-length : (xs old : List A) → length xs ≤ length old → length (over xs old) ≡ length old
+  over-length xs old h = length-append xs (drop (length xs) old) ∙ rw length-drop (omega arith)
+
+  -- One element more.
+  pub over-more : (xs old : List A) (a : A) → length xs < length old → set (over xs old) (length xs) a ≡ over (xs ++ (a ∷ [])) old
+  over-more xs old a h =
+      let n : length (xs ++ (a ∷ [])) ≡ suc (length xs) = length-append xs (a ∷ []) ∙ add-one (length xs) in
+      rw (drop-cons old (length xs) a h, set-append-seam, n) (sym (append-snoc xs a (drop (suc (length xs)) old)))
+
+  -- One element more of another list.
+  pub over-next : (from old : List A) (i : ℕ) (d : A) → i < length from → i < length old
+      → set (over (take i from) old) i (getD from i d) ≡ over (take (i + 1) from) old
+  over-next from old i d h k =
+      let n : length (take i from) ≡ i = length-take-le i from (omega arith) in
+      rw (add-one i, take-suc from i d h)
+      (ap (λ j. set (over (take i from) old) j (getD from i d)) (sym n) ∙ over-more (take i from) old (getD from i d) (omega arith))
+
+-- ---- whether there is room
+
+module _ (n a b : ℕ) where
+  -- the first output is too short, the second is, and both hold n elements
+  pub first-short : a < n → roomRefusal n a b ≡ some OutputTooShort
+  unfolding roomRefusal
+  first-short h = rw (lt-ltb a n h)
+
+  pub second-short : n ≤ a → b < n → roomRefusal n a b ≡ some OutputTooShort
+  unfolding roomRefusal
+  second-short h k = rw (le-ltb a n h, lt-ltb b n k)
+
+  pub room-fits : n ≤ a → n ≤ b → roomRefusal n a b ≡ none
+  unfolding roomRefusal
+  room-fits h k = rw (le-ltb a n h, le-ltb b n k)
