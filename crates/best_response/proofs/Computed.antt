@@ -1,0 +1,85 @@
+-- Small tables, their payoffs given by their bits, computed: each line is true by the contract's own definitions. Assumes nothing.
+use mathlib.Core.Path.{_≡_, refl}
+use mathlib.Core.List.{List, [], _∷_}
+use lib.Ieee as Ieee
+use lib.Ieee.{Float, binary64, ofBits}
+use Rattle.game.specs.Game.{whole}
+use Rattle.game.specs.Solution.{gains, bestResponse, bestResponses}
+use Rattle.refusal.specs.Told.{values, refused}
+use Rattle.utility.specs.Order.{finite, key, rank}
+use Rattle.table.specs.Table.{offset, payoffAt, tableGame}
+use Rattle.table.specs.Checks.{countRefusal, countsRefusal, payoffsRefusal, tableRefusal, playerRefusal}
+use Rattle.table.specs.Outputs.{roomRefusal, over}
+use Rattle.best_response.specs.Answers.{opponentsRefusal, responses, responseUtilities, responsesAnswer, responsesWritten}
+
+-- f64s, by their bits
+abbrev minus-zero : Float
+minus-zero = ofBits binary64 0x8000_0000_0000_0000
+
+abbrev zero : Float
+zero = ofBits binary64 0
+
+abbrev one : Float
+one = ofBits binary64 0x3ff0_0000_0000_0000
+
+abbrev two : Float
+two = ofBits binary64 0x4000_0000_0000_0000
+
+abbrev three : Float
+three = ofBits binary64 0x4008_0000_0000_0000
+
+abbrev five : Float
+five = ofBits binary64 0x4014_0000_0000_0000
+
+-- one player with both zeros, one player with 1 5 5, and the prisoner's dilemma
+abbrev zeros : List Float
+zeros = minus-zero ∷ zero ∷ []
+
+abbrev ties : List Float
+ties = one ∷ five ∷ five ∷ []
+
+abbrev dilemma : List Float
+dilemma = two ∷ two ∷ zero ∷ three ∷ three ∷ zero ∷ one ∷ one ∷ []
+
+record Computed : Type 0 where
+  -- both zeros are best, each with its own bits
+  zeros-listed : responses (2 ∷ []) zeros 0 [] ≡ 0 ∷ 1 ∷ []
+  zeros-told : responsesAnswer (2 ∷ []) zeros 0 [] 2 2 ≡ values 2
+  zeros-paid : responseUtilities (2 ∷ []) zeros 0 [] (responsesWritten (2 ∷ []) zeros 0 [] 2 2) ≡ minus-zero ∷ zero ∷ []
+  -- of 1 5 5 the last two are; an output longer than needed keeps its rest
+  ties-listed : responses (3 ∷ []) ties 0 [] ≡ 1 ∷ 2 ∷ []
+  ties-told : responsesAnswer (3 ∷ []) ties 0 [] 2 3 ≡ values 2
+  ties-written : over (responsesWritten (3 ∷ []) ties 0 [] 3 2) (7 ∷ 8 ∷ 9 ∷ []) ≡ 1 ∷ 2 ∷ 9 ∷ []
+  -- an output too short by one: 13, and nothing is written
+  too-short : responsesAnswer (3 ∷ []) ties 0 [] 2 1 ≡ refused 13
+  nothing-written : over (responsesWritten (3 ∷ []) ties 0 [] 2 1) (7 ∷ 8 ∷ 9 ∷ []) ≡ 7 ∷ 8 ∷ 9 ∷ []
+  -- each prisoner defects, whatever the other does
+  first-prisoner : responses (2 ∷ 2 ∷ []) dilemma 0 (0 ∷ []) ≡ 1 ∷ []
+  second-prisoner : responses (2 ∷ 2 ∷ []) dilemma 1 (1 ∷ []) ≡ 1 ∷ []
+  -- refusals 1 to 7 first, then 8, 9, 10, and last 13
+  table-first : responsesAnswer (2 ∷ 2 ∷ []) zeros 2 [] 0 0 ≡ refused 6
+  player-next : responsesAnswer (2 ∷ 2 ∷ []) dilemma 2 [] 0 0 ≡ refused 8
+  number-next : responsesAnswer (2 ∷ 2 ∷ []) dilemma 1 (2 ∷ 2 ∷ []) 0 0 ≡ refused 9
+  choice-next : responsesAnswer (2 ∷ 2 ∷ []) dilemma 1 (2 ∷ []) 0 0 ≡ refused 10
+  room-last : responsesAnswer (2 ∷ 2 ∷ []) dilemma 1 (1 ∷ []) 0 0 ≡ refused 13
+
+computed : Computed
+unfolding countRefusal countsRefusal payoffsRefusal tableRefusal playerRefusal opponentsRefusal roomRefusal responses responseUtilities responsesAnswer whole gains bestResponse bestResponses tableGame payoffAt offset finite key rank Ieee.ofBits Ieee.toBits
+computed =
+    record {
+      zeros-listed = refl;
+      zeros-told = refl;
+      zeros-paid = refl;
+      ties-listed = refl;
+      ties-told = refl;
+      ties-written = refl;
+      too-short = refl;
+      nothing-written = refl;
+      first-prisoner = refl;
+      second-prisoner = refl;
+      table-first = refl;
+      player-next = refl;
+      number-next = refl;
+      choice-next = refl;
+      room-last = refl;
+    }

@@ -1,0 +1,8 @@
+-- The laws of this crate's definitions.
+pub mod Row
+pub mod Listing
+pub mod Opponents
+pub mod Walk
+pub mod Responses
+pub mod Laws
+pub mod Computed

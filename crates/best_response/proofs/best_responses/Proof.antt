@@ -1,0 +1,105 @@
+-- `best_response::best_responses` meets its contract: the refusals of the table, the player and the opponents come in this order, and nothing
+-- is written; else the best of the player's row are the best responses. Assumes nothing.
+use mathlib.Core.Path.{_≡_, sym, ap, _∙_}
+use mathlib.Core.List.{List}
+use mathlib.Core.Option.{none}
+use Prim.Native.Nat.{ℕ, _-_}
+use borrow.Author.Needs.{needs}
+use lib.Ieee.{Float}
+use Rattle.refusal.specs.Told.{toldUsize}
+use Rattle.refusal.proofs.Told.{told-values}
+use Rattle.table.specs.Table.{offset}
+use Rattle.table.specs.Meaning.{Table}
+use Rattle.table.specs.Checks.{tableRefusal}
+use Rattle.table.proofs.Checks.{table-law}
+use Rattle.best_response.specs.Answers.{against, opponentsRefusal}
+use Rattle.best_response.proofs.Opponents.{opponents-law, Accepted}
+use Rattle.best_response.proofs.Responses.{against-inside, refused-table, refused-player, refused-opponents, refused-whole, row-whole}
+use Rattle.best_response.proofs.best_responses.Statement.{statement}
+use Rattle.best_response.proofs.best_responses.Tie as tie
+
+table-profile-count-requires : tie.Need-table-profile-count-requires
+table-profile-count-requires c κs = search needs
+
+enum-known-e : tie.Need-enum-known-e
+enum-known-e c = search needs
+
+enum-told : tie.Need-enum-told
+enum-told c = search needs
+
+-- the arm where the table has no refusal
+checked : (c : tie.After-enum-told) → tableRefusal (c .before .before .before .before .before .before .before .before .args .counts .now) (c .before .before .before .before .before .before .before .before .args .payoffs .now) ≡ none
+checked c = told-values _ _ _ (sym (ap toldUsize (c .enum-told .given .1)) ∙ c .before .before .table-profile-count .ensures) .0
+
+table : (c : tie.After-enum-told) → Table (c .before .before .before .before .before .before .before .before .args .counts .now) (c .before .before .before .before .before .before .before .before .args .payoffs .now)
+table c = table-law _ _ .0 (checked c)
+
+returns : tie.Need-returns
+returns c = refused-whole _ _ _ _ _ _ _ _ (refused-player _ _ _ _ _ _ (checked (c .before)) (c .if1 .taken))
+
+opponents-offset-requires : tie.Need-opponents-offset-requires
+opponents-offset-requires c κs = (table (c .before) .shape, c .if1 .left)
+
+enum-known-e-2 : tie.Need-enum-known-e-2
+enum-known-e-2 c = search needs
+
+enum-known-at : tie.Need-enum-known-at
+enum-known-at c = search needs
+
+-- the arm where the opponents have none either
+module _ (c : tie.After-known-told3) where
+  abbrev counts : List ℕ
+  counts = c .before .before .before .before .before .before .before .before .before .before .before .before .before .args .counts .now
+
+  abbrev payoffs : List Float
+  payoffs = c .before .before .before .before .before .before .before .before .before .before .before .before .before .args .payoffs .now
+
+  abbrev player : ℕ
+  player = c .before .before .before .before .before .before .before .before .before .before .before .before .before .args .player
+
+  abbrev opponents : List ℕ
+  opponents = c .before .before .before .before .before .before .before .before .before .before .before .before .before .args .opponents .now
+
+  answered : (opponentsRefusal counts player opponents ≡ none) × (c .before .at .given .0 .0 ≡ offset counts (against player opponents 0))
+  answered = told-values _ _ _ (sym (ap toldUsize (c .before .at .given .1)) ∙ c .before .before .before .opponents-offset .ensures)
+
+  accepted : Accepted counts payoffs player opponents
+  accepted =
+      let (many, fit) = opponents-law counts player opponents .0 (answered .0) in
+      record { table = table (c .before .before .before .before .before); mine = c .before .before .before .before .if1 .left; many = many; fit = fit }
+
+row-responses-requires : tie.Need-row-responses-requires
+row-responses-requires c κs = let k = c .before .before in (table (k .before .before .before .before .before), (k .before .before .before .before .if1 .left, λ t l. rw (answered k .1) (against-inside (accepted k) t l)))
+
+returns-2 : tie.Need-returns-2
+returns-2 c = refused-whole _ _ _ _ _ _ _ _ (refused-table _ _ _ _ _ _ _ _ (sym (ap toldUsize (c .before .e .given .1)) ∙ c .before .before .before .table-profile-count .ensures))
+
+returns-3 : tie.Need-returns-3
+returns-3 c = refused-whole _ _ _ _ _ _ _ _ (refused-opponents _ _ _ _ _ _ (checked (c .before .before .before .before .before)) (c .before .before .before .before .if1 .left) _ _ (sym (ap toldUsize (c .before .e2 .given .1)) ∙ c .before .before .before .opponents-offset .ensures))
+
+same-length : tie.Need-same-length
+same-length c = search needs
+
+same-length-2 : tie.Need-same-length-2
+same-length-2 c = search needs
+
+returns-4 : tie.Need-returns-4
+returns-4 c = let k = c .before .before .before .before .before .before .before in row-whole _ _ _ _ _ _ (accepted k) (answered k .1) _ _ (c .before .before .before .before .row-responses .ensures)
+
+pub best-responses-spec : {M : Type 1} → statement M
+best-responses-spec =
+    tie.close
+    (tie.spec
+    table-profile-count-requires
+    enum-known-e
+    enum-told
+    returns
+    opponents-offset-requires
+    enum-known-e-2
+    enum-known-at
+    row-responses-requires
+    returns-2
+    returns-3
+    same-length
+    same-length-2
+    returns-4)
