@@ -1,0 +1,106 @@
+-- `pure_nash::list_found` meets its contract: the count decides whether there is room, and the list is written where there is. Assumes nothing.
+use native.Mathlib.Omega.{arith}
+use native.Mathlib.Nat.{le-trans, mul-le-mul-right}
+use mathlib.Core.Path.{_≡_, sym, ap, _∙_}
+use mathlib.Core.List.{List}
+use Prim.Native.Nat.{ℕ, _*_, _≤_, _<_}
+use lib.ListN.{length}
+use lib.Ieee.{Float}
+use Rattle.game.specs.Game.{profiles}
+use Rattle.game.proofs.Game.{length-profiles}
+use Rattle.refusal.specs.Told.{values}
+use Rattle.refusal.specs.declared.NormalFormError.the-variants.{OutputTooShort}
+use Rattle.table.specs.Limits.{maxCells}
+use Rattle.table.specs.Outputs.{over}
+use Rattle.table.proofs.Outputs.{first-short, second-short, room-fits}
+use Rattle.pure_nash.specs.Found.{chosen}
+use Rattle.pure_nash.proofs.Listing.{found-many, chosen-most, found-fits, found-short}
+use borrow.Author.Needs.{needs}
+use Rattle.pure_nash.proofs.list_found.Statement.{statement}
+use Rattle.pure_nash.proofs.list_found.Tie as tie
+use Rattle.pure_nash.proofs.list_found.Reads as reads
+use Rattle.pure_nash.proofs.list_found.Lts as lts
+use Rattle.pure_nash.proofs.count_found.Reads as count-found-reads
+use Rattle.pure_nash.proofs.list.Reads as list-reads
+
+-- how many are found, and that P for each are no more than the cells
+many : (c : tie.After-count-found) → let s = c .before .before .before .before .before .before .args in
+    (c .count-found .result ≡ length (chosen (s .found .now) (profiles (s .counts .now)))) × (c .count-found .result * length (s .counts .now) ≤ maxCells)
+many c =
+    let s = c .before .before .before .before .before .before in
+    let cs = s .args .counts .now in
+    let is = c .count-found .ensures ∙ found-many cs (s .args .found .now) (s .args .total) (s .pre .1 .0) in
+    (is, le-trans (mul-le-mul-right (length cs) (rw (is, ← length-profiles cs) (chosen-most (s .args .found .now) (profiles cs)))) (s .pre .0 .shape .room))
+
+-- src/lib.rt:152:9
+count-found-requires : tie.Need-count-found-requires
+count-found-requires c κs = search needs
+
+-- src/lib.rt:153:24
+mul-if1 : tie.Need-mul-if1
+mul-if1 c = omega (arith, many c)
+
+-- src/lib.rt:154:9
+returns : tie.Need-returns
+returns c =
+    let s = c .before .before .before .before .before .before .before .args in
+    let n = many (c .before) in
+    let e = found-short (s .counts .now) (s .payoffs .now) (s .found .now) (length (s .choices .now)) (length (s .utilities .now)) OutputTooShort
+    (first-short _ (length (s .choices .now)) (length (s .utilities .now)) (rw (n .0) at (c .if1 .taken))) in
+    (e .0, (sym (ap (λ (xs : List ℕ). over xs (s .choices .now)) (e .1)), sym (ap (λ (xs : List Float). over xs (s .utilities .now)) (e .2))))
+
+-- src/lib.rt:156:26
+mul-if2 : tie.Need-mul-if2
+mul-if2 c = search needs
+
+-- src/lib.rt:157:9
+returns-2 : tie.Need-returns-2
+returns-2 c =
+    let s = c .before .before .before .before .before .before .before .before .args in
+    let n = many (c .before .before) in
+    let e = found-short (s .counts .now) (s .payoffs .now) (s .found .now) (length (s .choices .now)) (length (s .utilities .now)) OutputTooShort
+    (second-short _ (length (s .choices .now)) (length (s .utilities .now)) (rw (n .0) at (c .before .if1 .left)) (rw (n .0) at (c .if2 .taken))) in
+    (e .0, (sym (ap (λ (xs : List ℕ). over xs (s .choices .now)) (e .1)), sym (ap (λ (xs : List Float). over xs (s .utilities .now)) (e .2))))
+
+-- src/lib.rt:159:5
+list-requires : tie.Need-list-requires
+list-requires c κs =
+    let s = c .before .before .before .before .before .before .before .before .before .before in
+    let call = c .before .before .before .before in
+    let e = call .count-found .ensures in
+    (s .pre .0, (s .pre .1, (rw e at (c .before .before .before .if1 .left), rw e at (c .before .before .if2 .left))))
+
+-- src/lib.rt:138:1
+same-length : tie.Need-same-length
+same-length c = search needs
+
+-- src/lib.rt:138:1
+same-length-2 : tie.Need-same-length-2
+same-length-2 c = search needs
+
+-- src/lib.rt:138:1
+returns-3 : tie.Need-returns-3
+returns-3 c =
+    let s = c .before .before .before .before .before .before .before .before .before .before .before .before .before .before .before .args in
+    let call = c .before .before .before .before .before .before .before .before .before in
+    let n = many call in
+    let e = found-fits (s .counts .now) (s .payoffs .now) (s .found .now) (length (s .choices .now)) (length (s .utilities .now))
+    (room-fits _ (length (s .choices .now)) (length (s .utilities .now)) (rw (n .0) at (c .before .before .before .before .before .before .before .before .if1 .left)) (rw (n .0) at (c .before .before .before .before .before .before .before .if2 .left))) in
+    let wrote = c .before .before .before .before .list .ensures in (
+      ap (λ (k : ℕ). values k) (n .0) ∙ e .0,
+      (wrote .0 ∙ ap (λ (xs : List ℕ). over xs (s .choices .now)) (e .1), wrote .1 ∙ ap (λ (xs : List Float). over xs (s .utilities .now)) (e .2)),
+    )
+
+pub list-found-spec : {M : Type 1} → statement M
+list-found-spec =
+    tie.close
+    (tie.spec
+    count-found-requires
+    mul-if1
+    returns
+    mul-if2
+    returns-2
+    list-requires
+    same-length
+    same-length-2
+    returns-3)
