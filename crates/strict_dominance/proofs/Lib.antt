@@ -1,0 +1,6 @@
+-- The laws of this crate's definitions.
+pub mod Seen
+pub mod Rows
+pub mod Dominated
+pub mod Meaning
+pub mod Computed
