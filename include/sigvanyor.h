@@ -11,9 +11,13 @@
  *    6  the number of payoffs given is not profiles x P
  *    7  a payoff is NaN or infinite
  *    8  player not below P
+ *    9  the number of opponents' choices is not P - 1
+ *   10  an opponent's choice is not below its player's count
  *   11  the number of choices is not P
  *   12  a choice is not below its player's count
- * Values come through the pointers at the end of a call's parameters. A refused call writes nothing.
+ *   13  an output is shorter than the result needs
+ * Values come through the pointers at the end of a call's parameters. A refused call writes nothing. Where an output is a slice,
+ * elements past those written keep their contents.
  *
  * Any numbers and lengths may be handed in. A slice is a pointer and the number of its elements. A pointer is aligned for its type,
  * is not null, also where its slice is empty, and points to that many elements, which nobody else writes during the call; an output
@@ -68,6 +72,34 @@ uint32_t sigvanyor_profile_payoffs(const size_t *counts, size_t counts_len, cons
  * may come: a choice that is the last one, at its count or past it, up to SIZE_MAX, goes to 0 and the player before it goes up; false
  * where no choice could go up. Places past the players keep their contents, and counts past the last place are not read. */
 bool sigvanyor_advance_profile(const size_t *counts, size_t counts_len, size_t profile[SIGVANYOR_MAX_PLAYERS]);
+
+/* The player's best responses to the opponents' choices (player order, own place skipped), ascending, into `strategies`, the payoff
+ * of each, bits kept, into `utilities`, and how many they are into `number`; or 1 to 7, 8, 9, 10, 13. There is at least one, and at
+ * most the player's count. */
+uint32_t sigvanyor_best_responses(const size_t *counts, size_t counts_len, const double *payoffs, size_t payoffs_len,
+                                  size_t player, const size_t *opponents, size_t opponents_len,
+                                  size_t *strategies, size_t strategies_len, double *utilities, size_t utilities_len,
+                                  size_t *number);
+
+/* Whether a profile is an equilibrium, where no player's change of only its own choice gives that player a greater payoff, into
+ * `equilibrium`; or 1 to 7, 11, 12. */
+uint32_t sigvanyor_is_equilibrium(const size_t *counts, size_t counts_len, const double *payoffs, size_t payoffs_len,
+                                  const size_t *profile, size_t profile_len, bool *equilibrium);
+
+/* How many profiles are equilibria, into `number`; or 1 to 7. */
+uint32_t sigvanyor_count_equilibria(const size_t *counts, size_t counts_len, const double *payoffs, size_t payoffs_len,
+                                    size_t *number);
+
+/* Each equilibrium once, in profile order: its P choices into `choices`, its P payoffs, bits kept, into `utilities`, and how many
+ * equilibria there are into `number`; or 1 to 7, 13. */
+uint32_t sigvanyor_equilibria(const size_t *counts, size_t counts_len, const double *payoffs, size_t payoffs_len,
+                              size_t *choices, size_t choices_len, double *utilities, size_t utilities_len, size_t *number);
+
+/* The player's strategies that another of its strategies strictly dominates, ascending, into `dominated`, the lowest dominator of
+ * each into `dominators`, and how many they are into `number`; or 1 to 7, 8, 13. They are fewer than the player's count. */
+uint32_t sigvanyor_strictly_dominated_strategies(const size_t *counts, size_t counts_len, const double *payoffs, size_t payoffs_len,
+                                                 size_t player, size_t *dominated, size_t dominated_len,
+                                                 size_t *dominators, size_t dominators_len, size_t *number);
 
 #ifdef __cplusplus
 }

@@ -1,6 +1,7 @@
 // The library's calls under C names: include/sigvanyor.h declares them and says what each does.
 // A call answers a status, 0 or the refusal's number, and writes its values through pointers; refused, it writes nothing.
 // A slice is a pointer and the number of its elements.
+use refusal::BoolResult;
 use refusal::UnitResult;
 use refusal::UsizeResult;
 use table::MAX_PLAYERS;
@@ -10,12 +11,17 @@ use utility::Utility;
 use utility::UtilityResult;
 ghost use mathlib.Core.Path.{_≡_};
 ghost use Rattle.game.specs.Finite.{all};
-ghost use Rattle.refusal.specs.Told.{toldUnit, toldUsize, unless};
+ghost use lib.ListN.{length};
+ghost use Rattle.refusal.specs.Told.{toldUnit, toldUsize, toldBool, unless};
 ghost use Rattle.utility.specs.Order.{finite};
 ghost use Rattle.utility.specs.Value.{utilityAnswer, toldUtility};
 ghost use Rattle.table.specs.Step.{step};
 ghost use Rattle.table.specs.Checks.{countsRefusal, tableRefusal};
 ghost use Rattle.table.specs.Answers.{spaceOf, offsetAnswer, payoffAnswer};
+ghost use Rattle.table.specs.Outputs.{over};
+ghost use Rattle.best_response.specs.Answers.{responseUtilities, responsesAnswer, responsesWritten};
+ghost use Rattle.pure_nash.specs.Answers.{isEquilibriumAnswer, countAnswer, equilibriaAnswer, equilibriaChoices, equilibriaUtilities};
+ghost use Rattle.strict_dominance.specs.Answers.{strategiesOf, dominatorsOf, dominatedAnswer, dominatedWritten};
 ghost use Rattle.exports.specs.Status.{status, output, beside, partStart, partLength};
 
 // ---- an answer into its outputs
@@ -31,6 +37,20 @@ fn usize_into(answer: UsizeResult, number: &mut usize) -> u32
             0
         }
         UsizeResult::Err(e) => e.number(),
+    }
+}
+
+// A truth value into `truth`.
+fn bool_into(answer: BoolResult, truth: &mut bool) -> u32
+    ensures { λ r. ⌜ r ≡ status (toldBool answer) ⌝ }
+    ensures { λ r. ⌜ now (truth .exit) ≡ output (toldBool answer) (now (truth .entry)) ⌝ }
+{
+    match answer {
+        BoolResult::Ok(b) => {
+            *truth = b;
+            0
+        }
+        BoolResult::Err(e) => e.number(),
     }
 }
 
@@ -185,4 +205,106 @@ pub extern "C" fn sigvanyor_advance_profile(
     let next = stepped.profile;
     *profile = next;
     stepped.more
+}
+
+// `best_responses`: the strategies into `strategies`, the payoff of each into `utilities`, and how many there are into `number`, or 1 to 7, 8,
+// 9, 10, 13.
+#[no_mangle]
+pub extern "C" fn sigvanyor_best_responses(
+    counts: &[usize],
+    payoffs: &[f64],
+    player: usize,
+    opponents: &[usize],
+    strategies: &mut [usize],
+    utilities: &mut [f64],
+    number: &mut usize,
+) -> u32
+    ensures { λ r. ⌜ r ≡ status (responsesAnswer (now (counts .entry)) (now (payoffs .entry)) player (now (opponents .entry)) (length (now (strategies .entry))) (length (now (utilities .entry)))) ⌝ }
+    ensures { λ r. ⌜ now (number .exit) ≡ output (responsesAnswer (now (counts .entry)) (now (payoffs .entry)) player (now (opponents .entry)) (length (now (strategies .entry))) (length (now (utilities .entry)))) (now (number .entry)) ⌝ }
+    ensures { λ r. ⌜ now (strategies .exit) ≡ over (responsesWritten (now (counts .entry)) (now (payoffs .entry)) player (now (opponents .entry)) (length (now (strategies .entry))) (length (now (utilities .entry)))) (now (strategies .entry)) ⌝ }
+    ensures { λ r. ⌜ now (utilities .exit) ≡ over (responseUtilities (now (counts .entry)) (now (payoffs .entry)) player (now (opponents .entry)) (responsesWritten (now (counts .entry)) (now (payoffs .entry)) player (now (opponents .entry)) (length (now (strategies .entry))) (length (now (utilities .entry))))) (now (utilities .entry)) ⌝ }
+{
+    let answer = best_response::best_responses(
+        counts,
+        payoffs,
+        player,
+        opponents,
+        strategies,
+        utilities,
+    );
+    usize_into(answer, number)
+}
+
+// `is_equilibrium`: whether the profile is an equilibrium into `equilibrium`, or 1 to 7, 11, 12.
+#[no_mangle]
+pub extern "C" fn sigvanyor_is_equilibrium(
+    counts: &[usize],
+    payoffs: &[f64],
+    profile: &[usize],
+    equilibrium: &mut bool,
+) -> u32
+    ensures { λ r. ⌜ r ≡ status (isEquilibriumAnswer (now (counts .entry)) (now (payoffs .entry)) (now (profile .entry))) ⌝ }
+    ensures { λ r. ⌜ now (equilibrium .exit) ≡ output (isEquilibriumAnswer (now (counts .entry)) (now (payoffs .entry)) (now (profile .entry))) (now (equilibrium .entry)) ⌝ }
+{
+    bool_into(
+        pure_nash::is_equilibrium(counts, payoffs, profile),
+        equilibrium,
+    )
+}
+
+// `count_equilibria`: how many equilibria there are into `number`, or 1 to 7.
+#[no_mangle]
+pub extern "C" fn sigvanyor_count_equilibria(
+    counts: &[usize],
+    payoffs: &[f64],
+    number: &mut usize,
+) -> u32
+    ensures { λ r. ⌜ r ≡ status (countAnswer (now (counts .entry)) (now (payoffs .entry))) ⌝ }
+    ensures { λ r. ⌜ now (number .exit) ≡ output (countAnswer (now (counts .entry)) (now (payoffs .entry))) (now (number .entry)) ⌝ }
+{
+    usize_into(pure_nash::count_equilibria(counts, payoffs), number)
+}
+
+// `equilibria`: the choices of each into `choices`, the payoffs into `utilities`, and how many there are into `number`, or 1 to 7, 13.
+#[no_mangle]
+pub extern "C" fn sigvanyor_equilibria(
+    counts: &[usize],
+    payoffs: &[f64],
+    choices: &mut [usize],
+    utilities: &mut [f64],
+    number: &mut usize,
+) -> u32
+    ensures { λ r. ⌜ r ≡ status (equilibriaAnswer (now (counts .entry)) (now (payoffs .entry)) (length (now (choices .entry))) (length (now (utilities .entry)))) ⌝ }
+    ensures { λ r. ⌜ now (number .exit) ≡ output (equilibriaAnswer (now (counts .entry)) (now (payoffs .entry)) (length (now (choices .entry))) (length (now (utilities .entry)))) (now (number .entry)) ⌝ }
+    ensures { λ r. ⌜ now (choices .exit) ≡ over (equilibriaChoices (now (counts .entry)) (now (payoffs .entry)) (length (now (choices .entry))) (length (now (utilities .entry)))) (now (choices .entry)) ⌝ }
+    ensures { λ r. ⌜ now (utilities .exit) ≡ over (equilibriaUtilities (now (counts .entry)) (now (payoffs .entry)) (length (now (choices .entry))) (length (now (utilities .entry)))) (now (utilities .entry)) ⌝ }
+{
+    let answer = pure_nash::equilibria(counts, payoffs, choices, utilities);
+    usize_into(answer, number)
+}
+
+// `strictly_dominated_strategies`: the dominated strategies into `dominated`, the lowest dominator of each into `dominators`, and how many
+// there are into `number`, or 1 to 7, 8, 13.
+#[no_mangle]
+pub extern "C" fn sigvanyor_strictly_dominated_strategies(
+    counts: &[usize],
+    payoffs: &[f64],
+    player: usize,
+    dominated: &mut [usize],
+    dominators: &mut [usize],
+    number: &mut usize,
+) -> u32
+    ensures { λ r. ⌜ r ≡ status (dominatedAnswer (now (counts .entry)) (now (payoffs .entry)) player (length (now (dominated .entry))) (length (now (dominators .entry)))) ⌝ }
+    ensures { λ r. ⌜ now (number .exit) ≡ output (dominatedAnswer (now (counts .entry)) (now (payoffs .entry)) player (length (now (dominated .entry))) (length (now (dominators .entry)))) (now (number .entry)) ⌝ }
+    ensures { λ r. ⌜ now (dominated .exit) ≡ over (strategiesOf (dominatedWritten (now (counts .entry)) (now (payoffs .entry)) player (length (now (dominated .entry))) (length (now (dominators .entry))))) (now (dominated .entry)) ⌝ }
+    ensures { λ r. ⌜ now (dominators .exit) ≡ over (dominatorsOf (dominatedWritten (now (counts .entry)) (now (payoffs .entry)) player (length (now (dominated .entry))) (length (now (dominators .entry))))) (now (dominators .entry)) ⌝ }
+{
+    let answer = strict_dominance::strictly_dominated_strategies(
+        counts,
+        payoffs,
+        player,
+        dominated,
+        dominators,
+    );
+    usize_into(answer, number)
 }
