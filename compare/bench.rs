@@ -1,15 +1,18 @@
 //! Times of both sides from one driver: each the best of many runs, taken in turns.
 
-use crate::cases::Random;
+use crate::cases::{self, Random};
 use crate::document::{CELLS, PLAYERS, STRATEGIES};
-use crate::library;
+use crate::library::{self, Lists};
 use crate::rust;
 use std::hint::black_box;
-use std::time::Instant;
+use std::time::{Duration, Instant};
+
+/// The time for one row, after which no further run is begun.
+const TIME: Duration = Duration::from_millis(800);
 
 pub fn bench() {
     println!(
-        "{:<48} {:>12} {:>12} {:>14}",
+        "{:<56} {:>12} {:>12} {:>14}",
         "call", "library, ns", "Rust, ns", "Rust / library"
     );
     let mut random = Random(7);
@@ -26,6 +29,20 @@ pub fn bench() {
     matrix(&[STRATEGIES; 2], &payoffs);
     matrix(&[8, 8, 16, 16], &payoffs);
     matrix(&[2; PLAYERS], &payoffs);
+    let shapes: [&[usize]; 6] = [
+        &[2, 2],
+        &[STRATEGIES; 2],
+        &[8, 8, 16, 16],
+        &[16, 16, 16],
+        &[4; 6],
+        &[2; PLAYERS],
+    ];
+    for counts in shapes {
+        let dominated = cases::own_choices(counts);
+        solvers("random", counts, &payoffs[..dominated.len()]);
+        solvers("constant", counts, &vec![1.0; dominated.len()]);
+        solvers("dominated", counts, &dominated);
+    }
 }
 
 fn finite(name: &str, payoffs: &[f64]) {
@@ -39,34 +56,88 @@ fn finite(name: &str, payoffs: &[f64]) {
 /// From raw slices to the checked table; the Rust's holds a copy, which is dropped.
 fn matrix(counts: &[usize], payoffs: &[f64]) {
     let payoffs = &payoffs[..counts.len() * counts.iter().product::<usize>()];
-    let names: Vec<String> = counts.iter().map(usize::to_string).collect();
     row(
-        &format!("PayoffMatrix::new, {}", names.join("x")),
+        &format!("PayoffMatrix::new, {}", shape(counts)),
         || library::payoff_matrix_new(black_box(counts), black_box(payoffs)),
         || rust::table(black_box(counts), black_box(payoffs)),
     );
 }
 
-fn row<A, B>(name: &str, library: impl Fn() -> A, rust: impl Fn() -> B) {
+fn shape(counts: &[usize]) -> String {
+    let names: Vec<String> = counts.iter().map(usize::to_string).collect();
+    names.join("x")
+}
+
+/// From raw slices to the answer: the library's outputs are there beforehand, the Rust's table and answer are dropped.
+fn solvers(kind: &str, counts: &[usize], payoffs: &[f64]) {
+    let name = |call: &str| format!("{call}, {}, {kind}", shape(counts));
+    let input = || (black_box(counts), black_box(payoffs));
+    let table = || {
+        let (counts, payoffs) = input();
+        rust::table(counts, payoffs)
+    };
+    let mut lists = Lists::fresh([payoffs.len(); 2]);
+    row(
+        &name("equilibria"),
+        || {
+            let (counts, payoffs) = input();
+            library::equilibria(counts, payoffs, &mut lists)
+        },
+        || table().map(|matrix| rust::equilibria(&matrix)),
+    );
+    row(
+        &name("count_equilibria"),
+        || {
+            let (counts, payoffs) = input();
+            library::count_equilibria(counts, payoffs)
+        },
+        || table().map(|matrix| rust::equilibria(&matrix).len()),
+    );
+    for (place, player) in [("first", 0), ("last", counts.len() - 1)] {
+        row(
+            &name(&format!("dominance, {place} player")),
+            || {
+                let (counts, payoffs) = input();
+                library::strictly_dominated_strategies(counts, payoffs, player, &mut lists)
+            },
+            || table().map(|matrix| rust::dominated(&matrix, player)),
+        );
+    }
+    let opponents = vec![0; counts.len() - 1];
+    row(
+        &name("best_responses, first player"),
+        || {
+            let (counts, payoffs) = input();
+            library::best_responses(counts, payoffs, 0, &opponents, &mut lists)
+        },
+        || table().map(|matrix| rust::best_responses(&matrix, 0, &opponents)),
+    );
+}
+
+fn row<A, B>(name: &str, library: impl FnMut() -> A, rust: impl FnMut() -> B) {
     let (library, rust) = best(library, rust);
     println!(
-        "{name:<48} {library:>12.1} {rust:>12.1} {:>14.2}",
+        "{name:<56} {library:>12.1} {rust:>12.1} {:>14.2}",
         rust / library
     );
 }
 
 /// The least time of one call of each, in nanoseconds, over runs of some 20 microseconds or more.
-fn best<A, B>(library: impl Fn() -> A, rust: impl Fn() -> B) -> (f64, f64) {
-    let calls = (calls(&library), calls(&rust));
+fn best<A, B>(mut library: impl FnMut() -> A, mut rust: impl FnMut() -> B) -> (f64, f64) {
+    let calls = (calls(&mut library), calls(&mut rust));
     let mut least = (f64::INFINITY, f64::INFINITY);
+    let start = Instant::now();
     for _ in 0..1_000 {
-        least.0 = least.0.min(time(&library, calls.0));
-        least.1 = least.1.min(time(&rust, calls.1));
+        least.0 = least.0.min(time(&mut library, calls.0));
+        least.1 = least.1.min(time(&mut rust, calls.1));
+        if start.elapsed() > TIME {
+            break;
+        }
     }
     least
 }
 
-fn calls<A>(call: &impl Fn() -> A) -> u32 {
+fn calls<A>(call: &mut impl FnMut() -> A) -> u32 {
     let mut calls = 1;
     while time(call, calls) * f64::from(calls) < 20_000.0 {
         calls *= 2;
@@ -74,7 +145,7 @@ fn calls<A>(call: &impl Fn() -> A) -> u32 {
     calls
 }
 
-fn time<A>(call: &impl Fn() -> A, calls: u32) -> f64 {
+fn time<A>(call: &mut impl FnMut() -> A, calls: u32) -> f64 {
     let start = Instant::now();
     for _ in 0..calls {
         black_box(call());

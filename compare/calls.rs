@@ -4,28 +4,44 @@ use crate::cases::{self, Random};
 use crate::document::{self, CELLS, PLAYERS, STRATEGIES};
 use crate::library::{self, Answer, Bits};
 use crate::rust::{self, Judged};
+use crate::solvers;
 use crate::steps;
 use crate::tally::{floats, numbers, Judge, Tally};
 
 /// Compares every call and prints a line for each.
 pub fn compare() {
-    let outside = [2, 3, 4, 5];
+    let outside: (Judge, &[u32]) = (Judge::Outside, &[2, 3, 4, 5]);
+    let both: (Judge, &[u32]) = (Judge::SixAndSeven, &[6]);
+    let short: (Judge, &[u32]) = (Judge::TooShort, &[13]);
     let (mut with_rust, mut with_document) = (0, 0);
-    let mut report = |tally: Tally, rust: &[u32], outside: &[u32]| {
-        tally.report(rust, outside);
+    let mut report = |tally: Tally, rust: &[u32], others: &[(Judge, &[u32])]| {
+        tally.report(rust, others);
         let [rust, document] = tally.cases();
         with_rust += rust;
         with_document += document;
     };
     report(utilities(), &[0, 7], &[]);
     report(finite(), &[0], &[]);
-    report(spaces(), &[0, 1, 3], &outside);
-    report(matrices(), &[0, 1, 3, 6, 7], &outside);
+    report(spaces(), &[0, 1, 3], &[outside]);
+    report(matrices(), &[0, 1, 3, 6, 7], &[outside, both]);
     let calls = calls();
-    report(calls.payoff, &[0, 1, 3, 6, 7, 8, 11, 12], &outside);
-    report(calls.offset, &[0, 1, 3, 6, 7, 11, 12], &outside);
-    report(calls.profile_payoffs, &[0, 1, 3, 6, 7, 11, 12], &outside);
-    report(steps::steps(), &[0], &[0]);
+    let table = [outside, both];
+    report(calls.payoff, &[0, 1, 3, 6, 7, 8, 11, 12], &table);
+    report(calls.offset, &[0, 1, 3, 6, 7, 11, 12], &table);
+    report(calls.profile_payoffs, &[0, 1, 3, 6, 7, 11, 12], &table);
+    report(steps::steps(), &[0], &[(Judge::Outside, &[0])]);
+    let solvers = solvers::solvers();
+    let lists = [outside, both, short];
+    report(solvers.responses, &[0, 1, 3, 6, 7, 8, 9, 10], &lists);
+    let panics: (Judge, &[u32]) = (Judge::Panics, &[11, 12]);
+    report(
+        solvers.equilibrium,
+        &[0, 1, 3, 6, 7],
+        &[outside, both, panics],
+    );
+    report(solvers.count, &[0, 1, 3, 6, 7], &table);
+    report(solvers.equilibria, &[0, 1, 3, 6, 7], &lists);
+    report(solvers.dominated, &[0, 1, 3, 6, 7, 8], &lists);
     println!("compare: {with_rust} cases with the Rust and {with_document} with document 01 alone, 0 differences");
 }
 
@@ -270,7 +286,6 @@ fn calls() -> Calls {
 /// Every table of a shape over four values, with every profile and player, one choice or the player one past its
 /// count, one choice too few and one too many.
 fn every_table(calls: &mut Calls, counts: &[usize]) {
-    const VALUES: [f64; 4] = [-1.0, -0.0, 0.0, 1.0];
     let players = counts.len();
     let choices: Vec<usize> = (0..=*counts.iter().max().unwrap()).collect();
     let mut profiles: Vec<Vec<usize>> = cases::lists(&choices, players)
@@ -284,9 +299,9 @@ fn every_table(calls: &mut Calls, counts: &[usize]) {
     profiles.push(vec![0; players + 1]);
     let cells = document::cells(counts) as usize;
     let mut payoffs = vec![0.0; cells];
-    for number in 0..VALUES.len().pow(cells as u32) {
+    for number in 0..cases::VALUES.len().pow(cells as u32) {
         for (place, payoff) in payoffs.iter_mut().enumerate() {
-            *payoff = VALUES[number >> (2 * place) & 3];
+            *payoff = cases::VALUES[number >> (2 * place) & 3];
         }
         let judged = Judged::new(counts, &payoffs);
         for profile in &profiles {
@@ -340,21 +355,7 @@ fn refused_table(calls: &mut Calls, random: &mut Random, shape: &[usize]) {
 
 /// Anything for counts, payoffs, profile and player.
 fn junk(calls: &mut Calls, random: &mut Random) {
-    let counts = random.counts();
-    let length = match random.below(3) {
-        0 => random.below(40),
-        _ => document::cells(&counts).min(600) as usize,
-    };
-    let mut payoffs: Vec<f64> = (0..length).map(|_| random.finite()).collect();
-    if length > 0 && random.below(4) == 0 {
-        let place = random.below(length);
-        payoffs[place] = random.non_finite();
-    }
-    let places = match random.below(3) {
-        0 => random.below(PLAYERS + 3),
-        _ => counts.len(),
-    };
-    let profile: Vec<usize> = (0..places).map(|_| random.number()).collect();
+    let (counts, payoffs, profile) = random.junk();
     let judged = Judged::new(&counts, &payoffs);
     calls.compare(&judged, &profile, [random.number(), random.below(PLAYERS)]);
 }

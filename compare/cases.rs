@@ -1,6 +1,6 @@
 //! Where the cases come from: a generator with a fixed seed, values of every class, shapes around every limit.
 
-use crate::document::{CELLS, PLAYERS, STRATEGIES};
+use crate::document::{self, CELLS, PLAYERS, STRATEGIES};
 
 /// Finite values by their bits: both zeros, subnormals, the smallest and the largest normal, ones and their neighbours.
 pub const FINITE: [u64; 16] = [
@@ -35,6 +35,9 @@ pub const NON_FINITE: [u64; 10] = [
     0x7ff7_ffff_ffff_ffff,
     0xfff8_0000_dead_beef,
 ];
+
+/// Few values, with both zeros.
+pub const VALUES: [f64; 4] = [-1.0, -0.0, 0.0, 1.0];
 
 /// splitmix64.
 pub struct Random(pub u64);
@@ -155,6 +158,62 @@ impl Random {
         }
         profile
     }
+
+    /// Anything for counts, payoffs and profile.
+    pub fn junk(&mut self) -> (Vec<usize>, Vec<f64>, Vec<usize>) {
+        let counts = self.counts();
+        let length = match self.below(3) {
+            0 => self.below(40),
+            _ => document::cells(&counts).min(600) as usize,
+        };
+        let mut payoffs: Vec<f64> = (0..length).map(|_| self.finite()).collect();
+        if length > 0 && self.below(4) == 0 {
+            let place = self.below(length);
+            payoffs[place] = self.non_finite();
+        }
+        let places = match self.below(3) {
+            0 => self.below(PLAYERS + 3),
+            _ => counts.len(),
+        };
+        let profile = (0..places).map(|_| self.number()).collect();
+        (counts, payoffs, profile)
+    }
+
+    /// Payoffs of accepted counts with something to find in them: few values; specials; any; neighbours of one value,
+    /// of either sign; one value; a player's own choice, alone or with anything below it, up or down, and one cell of
+    /// another value.
+    pub fn payoffs(&mut self, counts: &[usize]) -> Vec<f64> {
+        let cells = document::cells(counts) as usize;
+        let style = self.below(8);
+        let one = self.finite();
+        if style < 5 {
+            return (0..cells)
+                .map(|_| match style {
+                    0 => self.pick(&VALUES),
+                    1 => f64::from_bits(self.pick(&FINITE)),
+                    2 => self.finite(),
+                    3 => {
+                        let size = one.abs().to_bits().saturating_sub(self.word() % 3);
+                        f64::from_bits(size | self.word() << 63)
+                    }
+                    _ => one,
+                })
+                .collect();
+        }
+        let mut payoffs = own_choices(counts);
+        for payoff in &mut payoffs {
+            match style {
+                5 => *payoff += self.below(8) as f64 / 8.0,
+                6 => *payoff = -*payoff,
+                _ => (),
+            }
+        }
+        if self.below(2) == 0 {
+            let place = self.below(cells);
+            payoffs[place] = self.pick(&VALUES);
+        }
+        payoffs
+    }
 }
 
 /// Numbers around every limit.
@@ -193,6 +252,35 @@ pub fn lists(values: &[usize], length: usize) -> impl Iterator<Item = Vec<usize>
     })
 }
 
+/// Every profile of the counts, the last player's choice running fastest.
+pub fn profiles(counts: &[usize]) -> impl Iterator<Item = Vec<usize>> + '_ {
+    (0..counts.iter().product()).map(move |place| {
+        let mut rest: usize = place;
+        let mut profile = counts.to_vec();
+        for count in profile.iter_mut().rev() {
+            let choice = rest % *count;
+            rest /= *count;
+            *count = choice;
+        }
+        profile
+    })
+}
+
+/// The table that pays each player the number of its own choice: every strategy but the last is dominated by the next.
+pub fn own_choices(counts: &[usize]) -> Vec<f64> {
+    profiles(counts)
+        .flatten()
+        .map(|choice| choice as f64)
+        .collect()
+}
+
+/// The list without what stands at one place.
+pub fn without(list: &[usize], place: usize) -> Vec<usize> {
+    let mut rest = list.to_vec();
+    rest.remove(place);
+    rest
+}
+
 /// Every accepted shape of at most so many cells.
 pub fn small_shapes(cells: usize) -> Vec<Vec<usize>> {
     (1..=PLAYERS.min(cells))
@@ -227,6 +315,15 @@ pub fn large_shapes() -> Vec<Vec<usize>> {
         shapes.push(counts);
     }
     shapes
+}
+
+/// Shapes of a few cells too many, and no other fault.
+pub fn over_shapes() -> Vec<Vec<usize>> {
+    large_shapes()
+        .iter()
+        .flat_map(|shape| neighbours(shape))
+        .filter(|counts| document::space_refusal(counts) == document::MANY_CELLS)
+        .collect()
 }
 
 /// Each shape with one count one less and one more.

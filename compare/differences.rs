@@ -4,6 +4,7 @@ use crate::document::{PLAYERS, STRATEGIES};
 use crate::library::{self, Answer};
 use crate::reference;
 use crate::rust;
+use std::panic::UnwindSafe;
 
 /// Runs every listed difference and prints how many there are; one that does not stand ends the run.
 pub fn differences() {
@@ -18,6 +19,8 @@ pub fn differences() {
         wrapped_listing(),
         both_six_and_seven(),
         largest_choice(),
+        no_profile("an equilibrium of too few choices", &[], 11),
+        no_profile("an equilibrium past a count", &[1], 12),
     ];
     for (name, stands) in listed {
         if !stands {
@@ -54,11 +57,24 @@ fn table(
 /// The equilibria of the table that the Rust accepted because the product wrapped: the listing panics.
 fn wrapped_listing() -> (&'static str, bool) {
     let table = rust::table(&[1 << 16; 4], &[]).unwrap();
+    let listed = panics(|| rust::equilibria(&table).len());
+    ("the listing of such counts", listed)
+}
+
+fn panics<T>(call: impl FnOnce() -> T + UnwindSafe) -> bool {
     let hook = std::panic::take_hook();
     std::panic::set_hook(Box::new(|_| ()));
-    let listed = std::panic::catch_unwind(|| reference::PureNashSolver::equilibria(&table).len());
+    let answer = std::panic::catch_unwind(call);
     std::panic::set_hook(hook);
-    ("the listing of such counts", listed.is_err())
+    answer.is_err()
+}
+
+/// Counts 1 with the payoff 0.0, and choices that are no profile: a refusal here, a panic there.
+fn no_profile(name: &'static str, profile: &[usize], here: u32) -> (&'static str, bool) {
+    let library = library::is_equilibrium(&[1], &[0.0], profile) == Answer::Refused(here);
+    let table = rust::table(&[1], &[0.0]).unwrap();
+    let rust = panics(|| reference::is_equilibrium(&table, profile));
+    (name, library && rust)
 }
 
 /// Counts 2 with the one payoff NaN: the number of payoffs is judged first here, the value first there.

@@ -13,8 +13,11 @@ pub const MANY_CELLS: u32 = 5;
 pub const PAYOFF_COUNT: u32 = 6;
 pub const NON_FINITE: u32 = 7;
 pub const PLAYER: u32 = 8;
+pub const OPPONENT_COUNT: u32 = 9;
+pub const OPPONENT: u32 = 10;
 pub const CHOICE_COUNT: u32 = 11;
 pub const CHOICE: u32 = 12;
+pub const SHORT: u32 = 13;
 
 /// Profiles × P, or the largest number where that is larger.
 pub fn cells(counts: &[usize]) -> u128 {
@@ -81,6 +84,11 @@ pub fn payoff_refusal(counts: &[usize], profile: &[usize], player: usize) -> u32
     } else {
         profile_refusal(counts, profile)
     }
+}
+
+/// Whether an output is shorter than the result needs, of the two that a list goes into: refusal 13, the last.
+pub fn too_short(needed: [usize; 2], lengths: [usize; 2]) -> bool {
+    lengths[0] < needed[0] || lengths[1] < needed[1]
 }
 
 /// Whether the Rust judges counts: players, strategies and cells are within the limits.

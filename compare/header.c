@@ -1,5 +1,5 @@
-/* Every call of include/sigvanyor.h from C, on document 01's table of counts 2 3 4, and the header's limits: the header fits the
- * archive. */
+/* Every call of include/sigvanyor.h from C, on document 01's table of counts 2 3 4 and its first game, and the header's limits: the
+ * header fits the archive. */
 #include "sigvanyor.h"
 #include <stdio.h>
 
@@ -29,6 +29,35 @@ static void limits(void) {
     expect("MAX_CELLS", sigvanyor_from_counts(cells, 4, &players, space) == 5);
 }
 
+/* Two players with 2 strategies each, each one's first strategy dominated by its second. */
+static void solvers(void) {
+    const size_t counts[] = {2, 2}, opponent = 0, profile[] = {1, 1};
+    const double payoffs[] = {2, 2, 0, 3, 3, 0, 1, 1};
+    size_t first[3] = {9, 9, 9}, second[2] = {9, 9}, number = 99;
+    double utilities[3] = {-1, -1, -1};
+    bool equilibrium = false;
+
+    expect("best_responses", sigvanyor_best_responses(counts, 2, payoffs, 8, 0, &opponent, 0, first, 1, utilities, 1, &number) == 9);
+    expect("best_responses", first[0] == 9 && utilities[0] == -1 && number == 99);
+    expect("best_responses", sigvanyor_best_responses(counts, 2, payoffs, 8, 0, &opponent, 1, first, 1, utilities, 1, &number) == 0);
+    expect("best_responses", number == 1 && first[0] == 1 && first[1] == 9 && utilities[0] == 3 && utilities[1] == -1);
+    expect("is_equilibrium", sigvanyor_is_equilibrium(counts, 2, payoffs, 8, profile, 1, &equilibrium) == 11 && !equilibrium);
+    expect("is_equilibrium", sigvanyor_is_equilibrium(counts, 2, payoffs, 8, profile, 2, &equilibrium) == 0 && equilibrium);
+    number = 99;
+    expect("count_equilibria", sigvanyor_count_equilibria(counts, 2, payoffs, 7, &number) == 6 && number == 99);
+    expect("count_equilibria", sigvanyor_count_equilibria(counts, 2, payoffs, 8, &number) == 0 && number == 1);
+    expect("equilibria", sigvanyor_equilibria(counts, 2, payoffs, 8, first, 3, utilities, 1, &number) == 13 && utilities[0] == 3);
+    expect("equilibria", sigvanyor_equilibria(counts, 2, payoffs, 8, first, 3, utilities, 3, &number) == 0 && number == 1);
+    expect("equilibria", first[0] == 1 && first[1] == 1 && first[2] == 9);
+    expect("equilibria", utilities[0] == 1 && utilities[1] == 1 && utilities[2] == -1);
+    number = 99;
+    expect("strictly_dominated_strategies",
+           sigvanyor_strictly_dominated_strategies(counts, 2, payoffs, 8, 2, first, 2, second, 2, &number) == 8 && number == 99);
+    expect("strictly_dominated_strategies",
+           sigvanyor_strictly_dominated_strategies(counts, 2, payoffs, 8, 1, first, 2, second, 2, &number) == 0 && number == 1);
+    expect("strictly_dominated_strategies", first[0] == 0 && first[1] == 1 && second[0] == 1 && second[1] == 9);
+}
+
 int main(void) {
     const size_t counts[] = {2, 3, 4}, profile[] = {1, 2, 3};
     double payoffs[72], utility = -1;
@@ -54,6 +83,7 @@ int main(void) {
     expect("profile_payoffs", first == 69 && number == 3);
     expect("advance_profile", sigvanyor_advance_profile(counts, 3, step));
     expect("advance_profile", step[0] == 1 && step[1] == 0 && step[2] == 0 && step[3] == 7);
+    solvers();
     limits();
     if (!wrong)
         printf("header: every call answers as declared\n");

@@ -3,6 +3,7 @@
 
 use crate::document::PLAYERS;
 use std::fmt;
+use std::ops::Range;
 use std::sync::atomic::{AtomicUsize, Ordering::Relaxed};
 
 const _: () = assert!(usize::BITS == 64, "an output's word is a usize or an f64");
@@ -58,6 +59,59 @@ extern "C" {
         profile: *mut usize,
     ) -> u8;
     fn sigvanyor_all_finite(values: *const f64, values_len: usize) -> u8;
+    fn sigvanyor_best_responses(
+        counts: *const usize,
+        counts_len: usize,
+        payoffs: *const f64,
+        payoffs_len: usize,
+        player: usize,
+        opponents: *const usize,
+        opponents_len: usize,
+        strategies: *mut usize,
+        strategies_len: usize,
+        utilities: *mut f64,
+        utilities_len: usize,
+        number: *mut usize,
+    ) -> u32;
+    fn sigvanyor_is_equilibrium(
+        counts: *const usize,
+        counts_len: usize,
+        payoffs: *const f64,
+        payoffs_len: usize,
+        profile: *const usize,
+        profile_len: usize,
+        equilibrium: *mut u8,
+    ) -> u32;
+    fn sigvanyor_count_equilibria(
+        counts: *const usize,
+        counts_len: usize,
+        payoffs: *const f64,
+        payoffs_len: usize,
+        number: *mut usize,
+    ) -> u32;
+    fn sigvanyor_equilibria(
+        counts: *const usize,
+        counts_len: usize,
+        payoffs: *const f64,
+        payoffs_len: usize,
+        choices: *mut usize,
+        choices_len: usize,
+        utilities: *mut f64,
+        utilities_len: usize,
+        number: *mut usize,
+    ) -> u32;
+    fn sigvanyor_strictly_dominated_strategies(
+        counts: *const usize,
+        counts_len: usize,
+        payoffs: *const f64,
+        payoffs_len: usize,
+        player: usize,
+        dominated: *mut usize,
+        dominated_len: usize,
+        dominators: *mut usize,
+        dominators_len: usize,
+        number: *mut usize,
+    ) -> u32;
 }
 
 /// What a side answers: the value, a refusal's number, or what is wrong with the way it answered.
@@ -99,6 +153,21 @@ pub struct Part {
     pub payoffs: Vec<Bits>,
 }
 
+/// What a list is told as: the number of its entries, and what stands of them in the first and in the second output.
+#[derive(Debug, Clone, PartialEq)]
+pub struct Listing<T> {
+    pub number: usize,
+    pub first: Vec<usize>,
+    pub second: Vec<T>,
+}
+
+impl<T> Listing<T> {
+    /// How many elements it needs of each output.
+    pub fn needed(&self) -> [usize; 2] {
+        [self.first.len(), self.second.len()]
+    }
+}
+
 /// NaNs of several payloads. As a usize each is larger than any number that a call answers.
 const PATTERNS: [u64; 5] = [
     0x7ff8_0000_0000_0000,
@@ -107,6 +176,14 @@ const PATTERNS: [u64; 5] = [
     0xffff_ffff_ffff_ffff,
     0x7ff4_5555_aaaa_5555,
 ];
+
+/// The place among the patterns whose turn it is.
+fn turn() -> usize {
+    static TURN: AtomicUsize = AtomicUsize::new(0);
+    let turn = TURN.load(Relaxed);
+    TURN.store(turn + 1, Relaxed);
+    turn
+}
 
 /// N words between two guards.
 #[repr(C)]
@@ -120,10 +197,7 @@ struct Output<const N: usize> {
 impl<const N: usize> Output<N> {
     /// Words and guards of the pattern whose turn it is.
     fn fresh() -> Self {
-        static TURN: AtomicUsize = AtomicUsize::new(0);
-        let turn = TURN.load(Relaxed);
-        TURN.store(turn + 1, Relaxed);
-        let pattern = PATTERNS[turn % PATTERNS.len()];
+        let pattern = PATTERNS[turn() % PATTERNS.len()];
         Self {
             before: pattern,
             words: [pattern; N],
@@ -150,6 +224,113 @@ impl<const N: usize> Output<N> {
     }
 }
 
+/// As many words as a caller likes between two guards of a profile's length, the patterns in turn.
+struct Slice {
+    words: Vec<u64>,
+    turn: usize,
+}
+
+impl Slice {
+    const GUARD: usize = PLAYERS;
+
+    fn fresh(length: usize) -> Self {
+        let turn = turn() % PATTERNS.len();
+        let patterns = PATTERNS.iter().copied().cycle().skip(turn);
+        Self {
+            words: patterns.take(Self::GUARD + length + Self::GUARD).collect(),
+            turn,
+        }
+    }
+
+    /// The place of the words; it may reach the guards.
+    fn place<T>(&mut self) -> *mut T {
+        self.words.as_mut_ptr().wrapping_add(Self::GUARD).cast()
+    }
+
+    fn len(&self) -> usize {
+        self.words.len() - 2 * Self::GUARD
+    }
+
+    fn first(&self, length: usize) -> &[u64] {
+        &self.words[Self::GUARD..][..length]
+    }
+
+    fn guarded(&self) -> bool {
+        self.kept(0..Self::GUARD) && self.kept(Self::GUARD + self.len()..self.words.len())
+    }
+
+    /// Whether the words are untouched, but for so many at the start.
+    fn untouched_past(&self, length: usize) -> bool {
+        self.kept(Self::GUARD + length..Self::GUARD + self.len())
+    }
+
+    fn kept(&self, places: Range<usize>) -> bool {
+        let patterns = PATTERNS.iter().cycle();
+        let patterns = patterns.skip((self.turn + places.start) % PATTERNS.len());
+        self.words[places]
+            .iter()
+            .zip(patterns)
+            .all(|(word, pattern)| word == pattern)
+    }
+}
+
+/// The outputs of a call that lists: a number, and two slices of any lengths.
+pub struct Lists {
+    number: Output<1>,
+    first: Slice,
+    second: Slice,
+}
+
+impl Lists {
+    pub fn fresh(lengths: [usize; 2]) -> Self {
+        Self {
+            number: Output::fresh(),
+            first: Slice::fresh(lengths[0]),
+            second: Slice::fresh(lengths[1]),
+        }
+    }
+
+    /// The answer of a call that wrote here, whose entries have so many elements in each output.
+    pub fn answer<T>(
+        &self,
+        status: u32,
+        elements: usize,
+        element: impl Fn(u64) -> T,
+    ) -> Answer<Listing<T>> {
+        let number = self.number.numbers()[0];
+        let room = self.first.len().min(self.second.len());
+        let written = match number.checked_mul(elements) {
+            _ if status != 0 => 0,
+            Some(written) if written <= room => written,
+            _ => return Answer::Broken("told more than the outputs hold"),
+        };
+        let rest = self.first.untouched_past(written) && self.second.untouched_past(written);
+        if status == 0 && !rest {
+            return Answer::Broken("touched an element past those written");
+        }
+        answer(
+            status,
+            self.number.guarded() && self.first.guarded() && self.second.guarded(),
+            self.number.untouched() && rest,
+            || Listing {
+                number,
+                first: self
+                    .first
+                    .first(written)
+                    .iter()
+                    .map(|word| *word as usize)
+                    .collect(),
+                second: self
+                    .second
+                    .first(written)
+                    .iter()
+                    .map(|word| element(*word))
+                    .collect(),
+            },
+        )
+    }
+}
+
 fn answer<T>(status: u32, guarded: bool, untouched: bool, value: impl FnOnce() -> T) -> Answer<T> {
     if !guarded {
         Answer::Broken("wrote past an output")
@@ -170,6 +351,12 @@ fn truth<T>(byte: u8, guarded: bool, value: impl FnOnce(bool) -> T) -> Answer<T>
     answer(0, guarded, false, || value(byte == 1))
 }
 
+fn answer_number(status: u32, number: Output<1>) -> Answer<usize> {
+    answer(status, number.guarded(), number.untouched(), || {
+        number.numbers()[0]
+    })
+}
+
 fn answer_space(status: u32, players: Output<1>, counts: Output<PLAYERS>) -> Answer<Space> {
     answer(
         status,
@@ -182,8 +369,20 @@ fn answer_space(status: u32, players: Output<1>, counts: Output<PLAYERS>) -> Ans
     )
 }
 
-/// A call of the library: each slice as a pointer and a length, and then the other arguments.
+/// A call of the library: each slice as a pointer and a length, then the other arguments, then the outputs of a list.
 macro_rules! call {
+    ($name:ident, [$($slice:ident),*] $(, $rest:expr)*; $lists:ident) => {
+        call!(
+            $name,
+            [$($slice),*]
+            $(, $rest)*,
+            $lists.first.place(),
+            $lists.first.len(),
+            $lists.second.place(),
+            $lists.second.len(),
+            $lists.number.place()
+        )
+    };
     ($name:ident, [$($slice:ident),*] $(, $rest:expr)*) => {
         unsafe { $name($($slice.as_ptr(), $slice.len(),)* $($rest),*) }
     };
@@ -224,9 +423,7 @@ pub fn payoff_matrix_new(counts: &[usize], payoffs: &[f64]) -> Answer<Space> {
 pub fn offset(counts: &[usize], payoffs: &[f64], profile: &[usize]) -> Answer<usize> {
     let mut offset = Output::<1>::fresh();
     let status = call!(sigvanyor_offset, [counts, payoffs, profile], offset.place());
-    answer(status, offset.guarded(), offset.untouched(), || {
-        offset.numbers()[0]
-    })
+    answer_number(status, offset)
 }
 
 pub fn payoff(counts: &[usize], payoffs: &[f64], profile: &[usize], player: usize) -> Answer<Bits> {
@@ -284,4 +481,66 @@ pub fn advance_profile(
 pub fn all_finite(payoffs: &[f64]) -> Answer<bool> {
     let all = call!(sigvanyor_all_finite, [payoffs]);
     truth(all, true, |all| all)
+}
+
+pub fn best_responses(
+    counts: &[usize],
+    payoffs: &[f64],
+    player: usize,
+    opponents: &[usize],
+    lists: &mut Lists,
+) -> u32 {
+    call!(
+        sigvanyor_best_responses,
+        [counts, payoffs],
+        player,
+        opponents.as_ptr(),
+        opponents.len();
+        lists
+    )
+}
+
+/// The answer is one byte of the output's word; the others are to keep their contents.
+pub fn is_equilibrium(counts: &[usize], payoffs: &[f64], profile: &[usize]) -> Answer<bool> {
+    let mut equilibrium = Output::<1>::fresh();
+    let status = call!(
+        sigvanyor_is_equilibrium,
+        [counts, payoffs, profile],
+        equilibrium.place()
+    );
+    let word = equilibrium.words[0];
+    let guarded = equilibrium.guarded() && word >> 8 == equilibrium.pattern >> 8;
+    if status == 0 {
+        truth(word as u8, guarded, |equilibrium| equilibrium)
+    } else {
+        answer(status, guarded, equilibrium.untouched(), || false)
+    }
+}
+
+pub fn count_equilibria(counts: &[usize], payoffs: &[f64]) -> Answer<usize> {
+    let mut number = Output::<1>::fresh();
+    let status = call!(
+        sigvanyor_count_equilibria,
+        [counts, payoffs],
+        number.place()
+    );
+    answer_number(status, number)
+}
+
+pub fn equilibria(counts: &[usize], payoffs: &[f64], lists: &mut Lists) -> u32 {
+    call!(sigvanyor_equilibria, [counts, payoffs]; lists)
+}
+
+pub fn strictly_dominated_strategies(
+    counts: &[usize],
+    payoffs: &[f64],
+    player: usize,
+    lists: &mut Lists,
+) -> u32 {
+    call!(
+        sigvanyor_strictly_dominated_strategies,
+        [counts, payoffs],
+        player;
+        lists
+    )
 }

@@ -9,6 +9,7 @@ mod document;
 mod library;
 mod record;
 mod rust;
+mod solvers;
 mod steps;
 mod tally;
 
@@ -23,6 +24,10 @@ mod reference {
 
     pub fn advance(space: &StrategySpace, profile: &mut [usize]) -> bool {
         advance_profile(profile, space)
+    }
+
+    pub fn is_equilibrium(matrix: &PayoffMatrix, profile: &[usize]) -> bool {
+        PureNashSolver::is_equilibrium(matrix, profile)
     }
 }
 

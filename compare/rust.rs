@@ -1,8 +1,11 @@
 //! The Rust's answers, an error put as document 01's number.
 
 use crate::document::{self, PLAYERS};
-use crate::library::{Answer, Bits, Part, Space};
-use crate::reference::{self, NormalFormError, PayoffMatrix, StrategySpace, Utility};
+use crate::library::{Answer, Bits, Listing, Part, Space};
+use crate::reference::{
+    self, BestResponse, BestResponseSolver, DominatedStrategy, NormalFormError, PayoffMatrix,
+    PureNashEquilibrium, PureNashSolver, StrategySpace, StrictDominanceSolver, Utility,
+};
 use crate::tally::Judge;
 
 /// The number of an error's kind.
@@ -12,6 +15,9 @@ fn number(error: NormalFormError) -> u32 {
         NormalFormError::NoStrategies { .. } => document::NO_STRATEGIES,
         NormalFormError::PayoffCount { .. } => document::PAYOFF_COUNT,
         NormalFormError::NonFiniteUtility => document::NON_FINITE,
+        NormalFormError::InvalidPlayer { .. } => document::PLAYER,
+        NormalFormError::OpponentProfileCount { .. } => document::OPPONENT_COUNT,
+        NormalFormError::InvalidOpponentStrategy { .. } => document::OPPONENT,
         other => panic!("no call that is compared gives {other:?}"),
     }
 }
@@ -33,6 +39,30 @@ pub fn table(counts: &[usize], payoffs: &[f64]) -> Result<PayoffMatrix, u32> {
         .collect::<Result<Vec<_>, _>>()
         .map_err(number)?;
     PayoffMatrix::new(space, utilities).map_err(number)
+}
+
+pub fn best_responses(
+    matrix: &PayoffMatrix,
+    player: usize,
+    opponents: &[usize],
+) -> Result<Vec<BestResponse>, u32> {
+    BestResponseSolver::best_responses(matrix, player, opponents).map_err(number)
+}
+
+pub fn equilibria(matrix: &PayoffMatrix) -> Vec<PureNashEquilibrium> {
+    PureNashSolver::equilibria(matrix)
+}
+
+pub fn dominated(matrix: &PayoffMatrix, player: usize) -> Result<Vec<DominatedStrategy>, u32> {
+    StrictDominanceSolver::strictly_dominated_strategies(matrix, player).map_err(number)
+}
+
+/// The length of a list.
+pub fn count<T>(listing: &Result<Listing<T>, u32>) -> Answer<usize> {
+    match listing {
+        Ok(listing) => Answer::Accepted(listing.number),
+        Err(refusal) => Answer::Refused(*refusal),
+    }
 }
 
 /// A table, or its refusal, and who gave it.
@@ -103,6 +133,74 @@ impl<'a> Judged<'a> {
             },
             || document::profile_refusal(self.counts, profile),
         )
+    }
+
+    /// The Rust panics where player 0 has no payoff at the profile; document 01 then gives the number.
+    pub fn is_equilibrium(&self, profile: &[usize]) -> Answer<bool> {
+        self.ask(
+            |matrix| {
+                matrix.payoff(profile, 0)?;
+                Some(reference::is_equilibrium(matrix, profile))
+            },
+            || document::profile_refusal(self.counts, profile),
+        )
+    }
+
+    pub fn best_responses(&self, player: usize, opponents: &[usize]) -> Result<Listing<Bits>, u32> {
+        let responses = best_responses(self.matrix()?, player, opponents)?;
+        Ok(Listing {
+            number: responses.len(),
+            first: responses.iter().map(|response| response.strategy).collect(),
+            second: responses
+                .iter()
+                .map(|response| Bits::of(response.utility.value()))
+                .collect(),
+        })
+    }
+
+    pub fn equilibria(&self) -> Result<Listing<Bits>, u32> {
+        let equilibria = equilibria(self.matrix()?);
+        Ok(Listing {
+            number: equilibria.len(),
+            first: equilibria
+                .iter()
+                .flat_map(|equilibrium| equilibrium.profile.iter().copied())
+                .collect(),
+            second: equilibria
+                .iter()
+                .flat_map(|equilibrium| &equilibrium.payoffs)
+                .map(|utility| Bits::of(utility.value()))
+                .collect(),
+        })
+    }
+
+    pub fn dominated(&self, player: usize) -> Result<Listing<usize>, u32> {
+        let dominated = dominated(self.matrix()?, player)?;
+        Ok(Listing {
+            number: dominated.len(),
+            first: dominated.iter().map(|entry| entry.strategy).collect(),
+            second: dominated.iter().map(|entry| entry.dominated_by).collect(),
+        })
+    }
+
+    /// The answer of a listing into outputs of these lengths, and who gives it: that an output is too short is
+    /// document 01's to say.
+    pub fn lent<T: Clone>(
+        &self,
+        listing: &Result<Listing<T>, u32>,
+        lengths: [usize; 2],
+    ) -> (Judge, Answer<Listing<T>>) {
+        match listing {
+            Err(refusal) => (self.by, Answer::Refused(*refusal)),
+            Ok(listing) if document::too_short(listing.needed(), lengths) => {
+                (Judge::TooShort, Answer::Refused(document::SHORT))
+            }
+            Ok(listing) => (self.by, Answer::Accepted(listing.clone())),
+        }
+    }
+
+    fn matrix(&self) -> Result<&PayoffMatrix, u32> {
+        self.table.as_ref().map_err(|refusal| *refusal)
     }
 
     fn ask<T>(

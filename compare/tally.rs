@@ -4,32 +4,41 @@ use crate::document;
 use crate::library::Answer;
 use std::fmt::{Debug, Write};
 
-const STATUSES: usize = document::CHOICE as usize + 1;
+const STATUSES: usize = document::SHORT as usize + 1;
 
-/// Who judges a case: the Rust; or document 01 alone, outside the comparison's domain, and where a table has both 6
-/// and 7, which the Rust meets in the other order, so that such inputs stay out of the comparison with it.
+/// Who judges a case: the Rust; or document 01 alone, outside the comparison's domain, where a table has both 6 and 7,
+/// which the Rust meets in the other order, so that such inputs stay out of the comparison with it, where an output is
+/// shorter than the list, since the Rust is lent no outputs, and where the Rust panics.
 #[derive(Clone, Copy, PartialEq)]
 pub enum Judge {
     Rust,
     Outside,
     SixAndSeven,
+    TooShort,
+    Panics,
 }
 
-/// The cases of one call by their status, and how many have both 6 and 7.
+impl Judge {
+    const TITLES: [&'static str; 5] = [
+        "with the Rust",
+        "outside the domain",
+        "with both 6 and 7",
+        "with an output too short",
+        "where the Rust panics",
+    ];
+}
+
+/// The cases of one call by their judge and their status.
 pub struct Tally {
     name: &'static str,
-    rust: [usize; STATUSES],
-    outside: [usize; STATUSES],
-    both: usize,
+    cases: [[usize; STATUSES]; Judge::TITLES.len()],
 }
 
 impl Tally {
     pub fn new(name: &'static str) -> Self {
         Self {
             name,
-            rust: [0; STATUSES],
-            outside: [0; STATUSES],
-            both: 0,
+            cases: [[0; STATUSES]; Judge::TITLES.len()],
         }
     }
 
@@ -52,36 +61,29 @@ impl Tally {
             println!("  the library: {library:?}");
             std::process::exit(1);
         }
-        let cases = match by {
-            Judge::Rust => &mut self.rust,
-            Judge::Outside => &mut self.outside,
-            Judge::SixAndSeven => return self.both += 1,
-        };
-        match judge {
-            Answer::Accepted(_) => cases[0] += 1,
-            Answer::Refused(status) => cases[status as usize] += 1,
+        let status = match judge {
+            Answer::Accepted(_) => 0,
+            Answer::Refused(status) => status,
             Answer::Broken(_) => unreachable!("no judge is broken"),
-        }
+        };
+        self.cases[by as usize][status as usize] += 1;
     }
 
     /// How many cases the Rust judged, and how many document 01 alone.
     pub fn cases(&self) -> [usize; 2] {
-        [total(&self.rust), total(&self.outside) + self.both]
+        let [rust, document @ ..] = &self.cases;
+        [total(rust), document.iter().map(|cases| total(cases)).sum()]
     }
 
-    /// The call's line; a status that a call has and no case met ends the run.
-    pub fn report(&self, rust: &[u32], outside: &[u32]) {
-        let mut line = format!("{}: {} with the Rust", self.name, total(&self.rust));
-        line += &statuses(&self.rust);
-        if total(&self.outside) > 0 {
-            let _ = write!(line, "; {} outside the domain", total(&self.outside));
-            line += &statuses(&self.outside);
-        }
-        if self.both > 0 {
-            let _ = write!(line, "; {} with both 6 and 7", self.both);
-        }
-        println!("{line}");
-        for (cases, expected) in [(&self.rust, rust), (&self.outside, outside)] {
+    /// The call's line; a status that a call has of a judge and no case met ends the run.
+    pub fn report(&self, rust: &[u32], others: &[(Judge, &[u32])]) {
+        let parts: Vec<String> = std::iter::zip(&self.cases, Judge::TITLES)
+            .filter(|(cases, _)| total(*cases) > 0)
+            .map(|(cases, title)| format!("{} {title}{}", total(cases), statuses(cases)))
+            .collect();
+        println!("{}: {}", self.name, parts.join("; "));
+        for (judge, expected) in others.iter().chain(&[(Judge::Rust, rust)]) {
+            let cases = &self.cases[*judge as usize];
             if let Some(status) = expected.iter().find(|status| cases[**status as usize] == 0) {
                 println!("compare: no case of {} has status {status}", self.name);
                 std::process::exit(1);
@@ -94,9 +96,9 @@ fn total(cases: &[usize]) -> usize {
     cases.iter().sum()
 }
 
-/// How many were accepted, and how many both sides refused by each number; nothing where none was refused.
+/// How many were accepted, and how many both sides refused by each number; nothing where all have one status.
 fn statuses(cases: &[usize]) -> String {
-    if cases[0] == total(cases) {
+    if cases.contains(&total(cases)) {
         return String::new();
     }
     let met: Vec<String> = (0..cases.len())
