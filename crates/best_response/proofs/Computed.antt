@@ -1,8 +1,7 @@
 -- Small tables, their payoffs given by their bits, computed: each line is true by the contract's own definitions. Assumes nothing.
 use mathlib.Core.Path.{_≡_, refl}
-use mathlib.Core.List.{List, [], _∷_}
+use mathlib.Core.List.{[], _∷_}
 use lib.Ieee as Ieee
-use lib.Ieee.{Float, binary64, ofBits}
 use Rattle.game.specs.Game.{whole}
 use Rattle.game.specs.Solution.{gains, bestResponse, bestResponses}
 use Rattle.refusal.specs.Told.{values, refused}
@@ -10,36 +9,8 @@ use Rattle.utility.specs.Order.{finite, key, rank}
 use Rattle.table.specs.Table.{offset, payoffAt, tableGame}
 use Rattle.table.specs.Checks.{countRefusal, countsRefusal, payoffsRefusal, tableRefusal, playerRefusal}
 use Rattle.table.specs.Outputs.{roomRefusal, over}
+use Rattle.table.proofs.Examples.{minus-zero, zero, five, zeros, ties, pair, dilemma}
 use Rattle.best_response.specs.Answers.{opponentsRefusal, responses, responseUtilities, responsesAnswer, responsesWritten}
-
--- f64s, by their bits
-abbrev minus-zero : Float
-minus-zero = ofBits binary64 0x8000_0000_0000_0000
-
-abbrev zero : Float
-zero = ofBits binary64 0
-
-abbrev one : Float
-one = ofBits binary64 0x3ff0_0000_0000_0000
-
-abbrev two : Float
-two = ofBits binary64 0x4000_0000_0000_0000
-
-abbrev three : Float
-three = ofBits binary64 0x4008_0000_0000_0000
-
-abbrev five : Float
-five = ofBits binary64 0x4014_0000_0000_0000
-
--- one player with both zeros, one player with 1 5 5, and the prisoner's dilemma
-abbrev zeros : List Float
-zeros = minus-zero ∷ zero ∷ []
-
-abbrev ties : List Float
-ties = one ∷ five ∷ five ∷ []
-
-abbrev dilemma : List Float
-dilemma = two ∷ two ∷ zero ∷ three ∷ three ∷ zero ∷ one ∷ one ∷ []
 
 record Computed : Type 0 where
   -- both zeros are best, each with its own bits
@@ -54,14 +25,14 @@ record Computed : Type 0 where
   too-short : responsesAnswer (3 ∷ []) ties 0 [] 2 1 ≡ refused 13
   nothing-written : over (responsesWritten (3 ∷ []) ties 0 [] 2 1) (7 ∷ 8 ∷ 9 ∷ []) ≡ 7 ∷ 8 ∷ 9 ∷ []
   -- each prisoner defects, whatever the other does
-  first-prisoner : responses (2 ∷ 2 ∷ []) dilemma 0 (0 ∷ []) ≡ 1 ∷ []
-  second-prisoner : responses (2 ∷ 2 ∷ []) dilemma 1 (1 ∷ []) ≡ 1 ∷ []
+  first-prisoner : responses pair dilemma 0 (0 ∷ []) ≡ 1 ∷ []
+  second-prisoner : responses pair dilemma 1 (1 ∷ []) ≡ 1 ∷ []
   -- refusals 1 to 7 first, then 8, 9, 10, and last 13
-  table-first : responsesAnswer (2 ∷ 2 ∷ []) zeros 2 [] 0 0 ≡ refused 6
-  player-next : responsesAnswer (2 ∷ 2 ∷ []) dilemma 2 [] 0 0 ≡ refused 8
-  number-next : responsesAnswer (2 ∷ 2 ∷ []) dilemma 1 (2 ∷ 2 ∷ []) 0 0 ≡ refused 9
-  choice-next : responsesAnswer (2 ∷ 2 ∷ []) dilemma 1 (2 ∷ []) 0 0 ≡ refused 10
-  room-last : responsesAnswer (2 ∷ 2 ∷ []) dilemma 1 (1 ∷ []) 0 0 ≡ refused 13
+  table-first : responsesAnswer pair zeros 2 [] 0 0 ≡ refused 6
+  player-next : responsesAnswer pair dilemma 2 [] 0 0 ≡ refused 8
+  number-next : responsesAnswer pair dilemma 1 pair 0 0 ≡ refused 9
+  choice-next : responsesAnswer pair dilemma 1 (2 ∷ []) 0 0 ≡ refused 10
+  room-last : responsesAnswer pair dilemma 1 (1 ∷ []) 0 0 ≡ refused 13
 
 computed : Computed
 unfolding countRefusal countsRefusal payoffsRefusal tableRefusal playerRefusal opponentsRefusal roomRefusal responses responseUtilities responsesAnswer whole gains bestResponse bestResponses tableGame payoffAt offset finite key rank Ieee.ofBits Ieee.toBits

@@ -14,16 +14,19 @@ use Rattle.game.proofs.Game.{whole-law}
 use Rattle.game.proofs.Solution.{bestResponses-law, best-whole}
 use Rattle.utility.specs.Order.{key, rank}
 use Rattle.utility.proofs.Rank.{rank-eq}
-use Rattle.table.specs.Table.{payoffAt, tableGame}
+use Rattle.table.specs.Table.{cell, payoffAt, tableGame}
 use Rattle.table.proofs.Game.{game-playable}
+use Rattle.table.proofs.Offsets.{cell-below}
 use Rattle.best_response.specs.Answers.{against, responses}
 use Rattle.best_response.proofs.Opponents.{set-against, Accepted}
+use Rattle.best_response.proofs.Responses.{accepted-profile}
 
 module _ {counts : List ℕ} {payoffs : List Float} {p : ℕ} {opponents : List ℕ} (u : Accepted counts payoffs p opponents) where
   -- p's payoff for the strategy s
   abbrev paid : ℕ → Float
   paid s = payoffAt counts payoffs p (against p opponents s)
 
+  -- just the strategies of p whose payoff no strategy's exceeds, ascending
   pub responses-law : Lists _<_ (λ s. (s < getD counts p 0) × ((t : ℕ) → t < getD counts p 0 → rank (paid t) ≤ rank (paid s)))
       (responses counts payoffs p opponents)
   unfolding responses tableGame
@@ -36,6 +39,7 @@ module _ {counts : List ℕ} {payoffs : List Float} {p : ℕ} {opponents : List 
         λ h. (h .0, (whole-law g p s .1 (h .0), λ t l _. rw (choose t, choose s) (h .1 t l))),
       )) (bestResponses-law g (whole g) p (against p opponents 0))
 
+  -- there is one
   pub responses-some : 0 < length (responses counts payoffs p opponents)
   unfolding responses tableGame
   responses-some =
@@ -47,11 +51,14 @@ module _ {counts : List ℕ} {payoffs : List Float} {p : ℕ} {opponents : List 
       not-empty [] b k = absurd (not-in-nil k)
       not-empty (x ∷ xs) b k = omega arith
 
-  -- every payoff is a value that an f64 can hold, as every element of a slice of f64 is
-  pub responses-equal : ((i : ℕ) → T (fits binary64 (getD payoffs i nan))) → (s t : ℕ)
+  within : (s : ℕ) → s < getD counts p 0 → cell counts (against p opponents s) p < length payoffs
+  within s l = rw (u .table .full) (cell-below p (accepted-profile u s l) (u .mine))
+
+  -- any two have payoffs of equal keys: every payoff is a value that an f64 can hold, as every element of a slice of f64 is
+  pub responses-equal : ((i : ℕ) → i < length payoffs → T (fits binary64 (getD payoffs i nan))) → (s t : ℕ)
       → s ∈ responses counts payoffs p opponents → t ∈ responses counts payoffs p opponents → key (paid s) ≡ key (paid t)
   unfolding payoffAt
   responses-equal held s t h k =
       let (l, most) = responses-law .members s .0 h in
       let (l′, most′) = responses-law .members t .0 k in
-      rank-eq (paid s) (paid t) (held _) (held _) .1 (omega (arith, most t l′, most′ s l))
+      rank-eq (paid s) (paid t) (held _ (within s l)) (held _ (within t l′)) .1 (omega (arith, most t l′, most′ s l))

@@ -5,13 +5,13 @@ use mathlib.Core.Bool.{Bool}
 use mathlib.Core.List.{List, [], _∷_, _++_, map, map-append}
 use Prim.Native.Nat.{ℕ, _+_, _*_, _≤_, _<_}
 use native.Mathlib.Omega.{arith}
-use lib.ListN.{length, getD, set, length-append, length-map}
+use lib.ListN.{length, getD, set, length-map}
 use lib.Ieee.{Float, nan}
 use Rattle.table.specs.Table.{cellRank}
 use Rattle.table.specs.Outputs.{over}
 use Rattle.table.proofs.Outputs.{over-length, over-more}
 use Rattle.best_response.specs.Row.{rowReaching}
-use Rattle.best_response.proofs.Row.{On, at, reaching-yes, reaching-not, reaching-grows}
+use Rattle.best_response.proofs.Row.{On, at, reaching-yes, reaching-one, reaching-not, reaching-grows}
 
 module _ (payoffs : List Float) (marks : List Bool) (place start step top : ℕ) (old : List ℕ) (old′ : List Float) where
   -- what is to be written of the first n strategies
@@ -30,17 +30,7 @@ module _ (payoffs : List Float) (marks : List Bool) (place start step top : ℕ)
   unfolding rowReaching
   listed-none = record { many = refl; listed = refl; beside = refl }
 
-  -- with room for those of all strategies
-  module _ (count : ℕ) (room : length (reached count) ≤ length old) (room′ : length (reached count) ≤ length old′) {n number : ℕ} {strategies : List ℕ}
-      {utilities : List Float} (u : Listed n number strategies utilities) where
-    -- the outputs keep their lengths
-    pub listed-length : n ≤ count → (length strategies ≡ length old) × (length utilities ≡ length old′)
-    listed-length h =
-        let few : length (reached n) ≤ length (reached count) = reaching-grows payoffs marks place start step top n count h in (
-          ap length (u .listed) ∙ over-length (reached n) old (omega arith),
-          ap length (u .beside) ∙ over-length (map paid (reached n)) old′ (omega (arith, length-map (reached n) paid)),
-        )
-
+  module _ {n number : ℕ} {strategies : List ℕ} {utilities : List Float} (u : Listed n number strategies utilities) where
     -- a strategy that does not reach is passed over
     pub listed-not : (On payoffs marks place start step n → at payoffs marks place start step n < cellRank payoffs top)
         → Listed (n + 1) number strategies utilities
@@ -52,19 +42,37 @@ module _ (payoffs : List Float) (marks : List Bool) (place start step top : ℕ)
           beside = u .beside ∙ sym (ap (λ (xs : List ℕ). over (map paid xs) old′) e);
         }
 
+    -- at the end all are written
+    pub listed-end : (count : ℕ) → n ≡ count → (strategies ≡ over (reached count) old) × (utilities ≡ over (map paid (reached count)) old′)
+    listed-end count e =
+        (u .listed ∙ ap (λ (k : ℕ). over (reached k) old) e, u .beside ∙ ap (λ (k : ℕ). over (map paid (reached k)) old′) e)
+
+  -- with room for those of all strategies
+  module _ (count : ℕ) (room : length (reached count) ≤ length old) (room′ : length (reached count) ≤ length old′) {n number : ℕ}
+      {strategies : List ℕ} {utilities : List Float} (u : Listed n number strategies utilities) where
+    -- the outputs keep their lengths
+    pub listed-length : n ≤ count → (length strategies ≡ length old) × (length utilities ≡ length old′)
+    listed-length h =
+        let few : length (reached n) ≤ length (reached count) = reaching-grows payoffs marks place start step top n count h in (
+          ap length (u .listed) ∙ over-length (reached n) old (omega arith),
+          ap length (u .beside) ∙ over-length (map paid (reached n)) old′ (omega (arith, length-map (reached n) paid)),
+        )
+
     -- for one that does there is room, and it is written
-    module _ (less : n < count) (on : On payoffs marks place start step n) (reaches : cellRank payoffs top ≤ at payoffs marks place start step n) where
+    module _ (less : n < count) (on : On payoffs marks place start step n)
+        (reaches : cellRank payoffs top ≤ at payoffs marks place start step n) where
       more : reached (n + 1) ≡ reached n ++ (n ∷ [])
       more = reaching-yes payoffs marks place start step top n on reaches
 
       one : length (reached (n + 1)) ≡ length (reached n) + 1
-      one = ap length more ∙ length-append (reached n) (n ∷ [])
+      one = reaching-one payoffs marks place start step top n on reaches
 
       below-all : length (reached n) < length (reached count)
       below-all = omega (arith, one, reaching-grows payoffs marks place start step top (n + 1) count (omega arith))
 
       pub listed-room : (number < length strategies) × (number < length utilities)
-      listed-room = let (l, l′) = listed-length (omega arith) in (omega (arith, u .many, below-all), omega (arith, u .many, below-all))
+      listed-room =
+          let (l, l′) = listed-length (omega arith) in (omega (arith, u .many, below-all), omega (arith, u .many, below-all))
 
       pub listed-yes : Listed (n + 1) (number + 1) (set strategies number n) (set utilities number (paid n))
       listed-yes =
@@ -76,6 +84,3 @@ module _ (payoffs : List Float) (marks : List Bool) (place start step top : ℕ)
                 (ap (λ (k : ℕ). set (over (map paid (reached n)) old′) k (paid n)) (sym (length-map (reached n) paid))
                 ∙ over-more (map paid (reached n)) old′ (paid n) (omega (arith, below-all, length-map (reached n) paid)));
           }
-
-    pub listed-end : n ≡ count → (strategies ≡ over (reached count) old) × (utilities ≡ over (map paid (reached count)) old′)
-    listed-end e = (u .listed ∙ ap (λ (k : ℕ). over (reached k) old) e, u .beside ∙ ap (λ (k : ℕ). over (map paid (reached k)) old′) e)

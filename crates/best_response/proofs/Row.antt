@@ -3,14 +3,14 @@
 use mathlib.Core.Path.{_≡_, refl, sym, ap, _∙_}
 use mathlib.Core.Bool.{Bool, true, false, not, _&&_}
 use mathlib.Core.List.{List, [], _∷_, _++_}
-use mathlib.Core.Logic.{_↔_, _⊎_, Iff·rfl, Iff·trans, Iff·symm, ⊎-elim}
+use mathlib.Core.Logic.{_↔_, Iff·rfl, Iff·trans, Iff·symm, ⊎-elim}
 use mathlib.Core.Option.{Option, none, some}
 use Prim.Native.Nat.{ℕ, _+_, _*_, _≤_, _<_}
 use native.Mathlib.Nat.{zero-mul}
 use native.Mathlib.Omega.{arith}
 use borrow.Author.Count.{below-more}
 use lib.Dec.{T, ltb}
-use lib.ListN.{length, getD, set}
+use lib.ListN.{length, getD, set, length-append}
 use lib.Ieee.{Float}
 use Rattle.game.specs.Finite.{_∈_, below, filter, first, Lists, First}
 use Rattle.game.specs.Game.{Profile}
@@ -62,7 +62,8 @@ module _ (payoffs : List Float) (marks : List Bool) (place start step : ℕ) whe
       lists-iff (λ s. simp rowBest-T Iff·rfl) (lists-filter (rowBest payoffs marks place start step count) (below count) (below-law count))
 
   -- a marked strategy exceeds: the row is not unexceeded
-  pub exceeded : (count own t : ℕ) → t < count → On t → cellRank payoffs own < at t → rowUnexceeded payoffs marks place start step count own ≡ false
+  pub exceeded : (count own t : ℕ) → t < count → On t → cellRank payoffs own < at t
+      → rowUnexceeded payoffs marks place start step count own ≡ false
   exceeded count own t l h k = test-false _ (λ u. omega (arith, unexceeded-T count own .0 u t l h))
 
   -- ---- the lowest of the best ones, as a walk finds it
@@ -119,6 +120,7 @@ module _ (payoffs : List Float) (marks : List Bool) (place start step : ℕ) whe
 
   -- ---- the best ones reach the lowest of them
 
+  -- the lowest best one is a strategy of the row
   pub lowest-below : (count : ℕ) → 0 < count → rowLowest payoffs marks place start step count < count
   unfolding rowLowest
   lowest-below count some' = go (lowest count) (lowest-law count)
@@ -153,6 +155,7 @@ module _ (payoffs : List Float) (marks : List Bool) (place start step : ℕ) whe
         λ k. (h, λ u j i. omega (arith, top u j i, at-most _ _ k)),
       )))
 
+  -- so those that reach it are the best ones; where nothing is marked, both lists are empty
   pub row-reaching : (count : ℕ)
       → rowReaching payoffs marks place start step count (start + rowLowest payoffs marks place start step count * step)
       ≡ rowBests payoffs marks place start step count
@@ -180,13 +183,18 @@ module _ (payoffs : List Float) (marks : List Bool) (place start step : ℕ) whe
     unfolding rowReaching reaches
     reaching-yes t h k = filter-yes reaches t (test-true (reaches t) (reaches-T t .1 (h, k)))
 
+    pub reaching-one : (t : ℕ) → On t → cellRank payoffs top ≤ at t
+        → length (rowReaching payoffs marks place start step (t + 1) top) ≡ length (rowReaching payoffs marks place start step t top) + 1
+    reaching-one t h k =
+        ap length (reaching-yes t h k) ∙ length-append (rowReaching payoffs marks place start step t top) (t ∷ [])
+
     -- or one that is not
     pub reaching-not : (t : ℕ) → (On t → at t < cellRank payoffs top)
         → rowReaching payoffs marks place start step (t + 1) top ≡ rowReaching payoffs marks place start step t top
     unfolding rowReaching reaches
     reaching-not t h = filter-not reaches t (test-false (reaches t) (λ k. let (i, j) = reaches-T t .0 k in omega (arith, h i, j)))
 
-    -- of the first n, no more than n reach, and no more than of all
+    -- of the first n, no more than n reach, and no more than of any more
     pub reaching-few : (n : ℕ) → length (rowReaching payoffs marks place start step n top) ≤ n
     unfolding rowReaching reaches
     reaching-few n = omega (arith, filter-at-most reaches (below n), length-below n)
@@ -207,6 +215,7 @@ rowStep counts p = stride counts p * length counts
 
 module _ {counts : List ℕ} (shape : Shape counts) (payoffs : List Float) (marks : List Bool) {x : List ℕ} (r : Profile counts x) (p : ℕ)
     (mine : p < length counts) where
+  -- against the others' choices in the profile x, the best of the row is the game's best response
   pub row-best : (s : ℕ) → s < getD counts p 0
       → rowBest payoffs marks (p * maxStrategies) (rowStart counts x p) (rowStep counts p) (getD counts p 0) s
       ≡ bestResponse (tableGame counts payoffs) (marked marks) p x s
@@ -214,7 +223,8 @@ module _ {counts : List ℕ} (shape : Shape counts) (payoffs : List Float) (mark
   row-best s l =
       let some' : 0 < getD counts p 0 = shape .low p mine in
       let most : getD counts p 0 ≤ maxStrategies = shape .high p mine in
-      let mark : (t : ℕ) → t < getD counts p 0 → marked marks p t ≡ getD marks (p * maxStrategies + t) false = λ t k. mark-at marks p t (omega arith) in
+      let mark : (t : ℕ) → t < getD counts p 0 → marked marks p t ≡ getD marks (p * maxStrategies + t) false =
+      λ t k. mark-at marks p t (omega arith) in
       let pay = row-pay p r mine some' payoffs in
       same-test _ _ (Iff·trans (rowBest-T payoffs marks (p * maxStrategies) (rowStart counts x p) (rowStep counts p) (getD counts p 0) s)
       (Iff·symm (Iff·trans (bestResponse-law (tableGame counts payoffs) (marked marks) p x s) (

@@ -1,6 +1,6 @@
 -- A row: the cells of one player's strategies, 0 to count − 1, against given choices of the others. Strategy t's payoff is in the cell
 -- start + t × step, and its mark at place + t. What is here is best responses as a walk along a row meets them; the law `row-best` says
--- that they are the game's. Assumes nothing.
+-- that they are the game's, and `row-responses` that those of a whole table's row are what `best_responses` lists. Assumes nothing.
 use mathlib.Core.Bool.{Bool, true, false, not, _&&_}
 use mathlib.Core.List.{List, map}
 use mathlib.Core.Option.{Option, none, some}

@@ -4,3 +4,4 @@ pub mod Known
 pub mod Rows
 pub mod Listing
 pub mod Laws
+pub mod Computed

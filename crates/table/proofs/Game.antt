@@ -52,9 +52,9 @@ module _ (counts : List ℕ) (payoffs : List Float) where
     pay-equal r q = sym (eq-rank _ _ (held-here r) (held-here q) (finite-here r) (finite-here q))
 
 -- Two values that were read from cells of finite payoffs compare as the ranks of the cells.
-pub cells-greater : (payoffs : List Float) → Finites payoffs → ((i : ℕ) → T (fits binary64 (getD payoffs i nan)))
+pub cells-greater : (payoffs : List Float) → Finites payoffs → ((i : ℕ) → i < length payoffs → T (fits binary64 (getD payoffs i nan)))
     → {x y : Float} (i j : ℕ) → i < length payoffs → j < length payoffs → x ≡ getD payoffs i nan → y ≡ getD payoffs j nan
     → greater x y ≡ ltb (cellRank payoffs j) (cellRank payoffs i)
 unfolding cellRank
 cells-greater payoffs finites held i j h k e f =
-    ap₂ greater e f ∙ greater-rank (getD payoffs i nan) (getD payoffs j nan) (held i) (held j) (finites i h) (finites j k)
+    ap₂ greater e f ∙ greater-rank (getD payoffs i nan) (getD payoffs j nan) (held i h) (held j k) (finites i h) (finites j k)

@@ -8,4 +8,5 @@ pub mod Table
 pub mod Outputs
 pub mod Walk
 pub mod Game
+pub mod Examples
 pub mod Computed

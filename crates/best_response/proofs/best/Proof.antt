@@ -29,10 +29,12 @@ abbrev μ-loop : tie.MeasureT-loop
 first : (c : tie.Start Inv-loop μ-loop) → c .args .start < length (c .args .payoffs .now)
 first c = rw (← first-cell (c .args .start) (c .args .step)) (c .pre .1 .1 .0 0 (c .pre .1 .1 .1))
 
-cell : (c : tie.Then1 Inv-loop μ-loop)
-    → c .before .before .before .before .before .before .before .before .args .start + c .before .before .before .loop .t * c .before .before .before .before .before .before .before .before .args .step
-    < length (c .before .before .before .before .before .before .before .before .args .payoffs .now)
-cell c = c .before .before .before .before .before .before .before .before .pre .1 .1 .0 (c .before .before .before .loop .t) (c .before .before .loop-test .taken)
+cell : (c : tie.Then1 Inv-loop μ-loop) →
+    let s = c .before .before .before .before .before .before .before .before in
+    s .args .start + c .before .before .before .loop .t * s .args .step < length (s .args .payoffs .now)
+cell c =
+    c .before .before .before .before .before .before .before .before .pre .1 .1 .0 (c .before .before .before .loop .t)
+    (c .before .before .loop-test .taken)
 
 mul-of-finite : tie.Need-mul-of-finite Inv-loop μ-loop
 mul-of-finite c = omega (arith, first (c .before .before))
@@ -44,7 +46,9 @@ of-finite-requires : tie.Need-of-finite-requires Inv-loop μ-loop
 of-finite-requires c κs = c .before .before .before .pre .0 _ (first (c .before .before .before))
 
 loop-holds : tie.Need-loop-holds Inv-loop μ-loop
-loop-holds c = (omega arith, c .of-finite .ensures ∙ ap (λ (n : ℕ). getD (c .before .before .before .before .args .payoffs .now) n nan) (sym (first-cell _ _)), found-none _ _ _ _ _)
+loop-holds c =
+    let read : ℕ → Float = λ i. getD (c .before .before .before .before .args .payoffs .now) i nan in
+    (omega arith, c .of-finite .ensures ∙ ap read (sym (first-cell _ _)), found-none _ _ _ _ _)
 
 add-if1 : tie.Need-add-if1 Inv-loop μ-loop
 add-if1 c = omega (arith, c .before .before .before .before .before .before .pre)
@@ -90,12 +94,14 @@ compared : (c : tie.Joined1 Inv-loop μ-loop) {x : Float} →
     let l = c .before .before .before .loop in
     let a = c .before .before .before .before .before .before .before .before .args in
     T (l .any) → x ≡ getD (a .payoffs .now) (a .start + l .t * a .step) nan
-    → greater x (valueOf (l .top)) ≡ ltb (cellRank (a .payoffs .now) (a .start + l .best * a .step)) (cellRank (a .payoffs .now) (a .start + l .t * a .step))
+    → greater x (valueOf (l .top))
+    ≡ ltb (cellRank (a .payoffs .now) (a .start + l .best * a .step)) (cellRank (a .payoffs .now) (a .start + l .t * a .step))
 compared c h e =
     let l = c .before .before .before .loop in
     let s = c .before .before .before .before .before .before .before .before in
     let t = c .before .before .loop-test .taken in
-    cells-greater (s .args .payoffs .now) (s .pre .0) (c .before .before .before .before .before .before .before .shared-slice-known .given) _ _
+    let held = c .before .before .before .before .before .before .before .shared-slice-known .given in
+    cells-greater (s .args .payoffs .now) (s .pre .0) (λ i _. held i) _ _
     (s .pre .1 .1 .0 (l .t) t) (s .pre .1 .1 .0 (l .best) (omega (arith, l .inv .2 .something h .0, t))) e (l .inv .1)
 
 loop-again : tie.Need-loop-again Inv-loop μ-loop

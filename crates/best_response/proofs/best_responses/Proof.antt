@@ -3,8 +3,9 @@
 use mathlib.Core.Path.{_≡_, sym, ap, _∙_}
 use mathlib.Core.List.{List}
 use mathlib.Core.Option.{none}
-use Prim.Native.Nat.{ℕ, _-_}
+use Prim.Native.Nat.{ℕ, _<_}
 use borrow.Author.Needs.{needs}
+use lib.ListN.{length}
 use lib.Ieee.{Float}
 use Rattle.refusal.specs.Told.{toldUsize}
 use Rattle.refusal.proofs.Told.{told-values}
@@ -28,11 +29,18 @@ enum-told : tie.Need-enum-told
 enum-told c = search needs
 
 -- the arm where the table has no refusal
-checked : (c : tie.After-enum-told) → tableRefusal (c .before .before .before .before .before .before .before .before .args .counts .now) (c .before .before .before .before .before .before .before .before .args .payoffs .now) ≡ none
-checked c = told-values _ _ _ (sym (ap toldUsize (c .enum-told .given .1)) ∙ c .before .before .table-profile-count .ensures) .0
+module _ (c : tie.After-enum-told) where
+  abbrev counts : List ℕ
+  counts = c .before .before .before .before .before .before .before .before .args .counts .now
 
-table : (c : tie.After-enum-told) → Table (c .before .before .before .before .before .before .before .before .args .counts .now) (c .before .before .before .before .before .before .before .before .args .payoffs .now)
-table c = table-law _ _ .0 (checked c)
+  abbrev payoffs : List Float
+  payoffs = c .before .before .before .before .before .before .before .before .args .payoffs .now
+
+  checked : tableRefusal counts payoffs ≡ none
+  checked = told-values _ _ _ (sym (ap toldUsize (c .enum-told .given .1)) ∙ c .before .before .table-profile-count .ensures) .0
+
+  table : Table counts payoffs
+  table = table-law counts payoffs .0 checked
 
 returns : tie.Need-returns
 returns c = refused-whole _ _ _ _ _ _ _ _ (refused-player _ _ _ _ _ _ (checked (c .before)) (c .if1 .taken))
@@ -48,34 +56,41 @@ enum-known-at c = search needs
 
 -- the arm where the opponents have none either
 module _ (c : tie.After-known-told3) where
-  abbrev counts : List ℕ
-  counts = c .before .before .before .before .before .before .before .before .before .before .before .before .before .args .counts .now
-
-  abbrev payoffs : List Float
-  payoffs = c .before .before .before .before .before .before .before .before .before .before .before .before .before .args .payoffs .now
+  abbrev first : tie.After-enum-told
+  first = c .before .before .before .before .before
 
   abbrev player : ℕ
-  player = c .before .before .before .before .before .before .before .before .before .before .before .before .before .args .player
+  player = first .before .before .before .before .before .before .before .before .args .player
 
   abbrev opponents : List ℕ
-  opponents = c .before .before .before .before .before .before .before .before .before .before .before .before .before .args .opponents .now
+  opponents = first .before .before .before .before .before .before .before .before .args .opponents .now
 
-  answered : (opponentsRefusal counts player opponents ≡ none) × (c .before .at .given .0 .0 ≡ offset counts (against player opponents 0))
+  answered : (opponentsRefusal (counts first) player opponents ≡ none)
+      × (c .before .at .given .0 .0 ≡ offset (counts first) (against player opponents 0))
   answered = told-values _ _ _ (sym (ap toldUsize (c .before .at .given .1)) ∙ c .before .before .before .opponents-offset .ensures)
 
-  accepted : Accepted counts payoffs player opponents
+  mine : player < length (counts first)
+  mine = c .before .before .before .before .if1 .left
+
+  accepted : Accepted (counts first) (payoffs first) player opponents
   accepted =
-      let (many, fit) = opponents-law counts player opponents .0 (answered .0) in
-      record { table = table (c .before .before .before .before .before); mine = c .before .before .before .before .if1 .left; many = many; fit = fit }
+      let (many, fit) = opponents-law (counts first) player opponents .0 (answered .0) in
+      record { table = table first; mine = mine; many = many; fit = fit }
 
 row-responses-requires : tie.Need-row-responses-requires
-row-responses-requires c κs = let k = c .before .before in (table (k .before .before .before .before .before), (k .before .before .before .before .if1 .left, λ t l. rw (answered k .1) (against-inside (accepted k) t l)))
+row-responses-requires c κs =
+    let k = c .before .before in (table (first k), (mine k, λ t l. rw (answered k .1) (against-inside (accepted k) t l)))
 
 returns-2 : tie.Need-returns-2
-returns-2 c = refused-whole _ _ _ _ _ _ _ _ (refused-table _ _ _ _ _ _ _ _ (sym (ap toldUsize (c .before .e .given .1)) ∙ c .before .before .before .table-profile-count .ensures))
+returns-2 c =
+    refused-whole _ _ _ _ _ _ _ _
+    (refused-table _ _ _ _ _ _ _ _ (sym (ap toldUsize (c .before .e .given .1)) ∙ c .before .before .before .table-profile-count .ensures))
 
 returns-3 : tie.Need-returns-3
-returns-3 c = refused-whole _ _ _ _ _ _ _ _ (refused-opponents _ _ _ _ _ _ (checked (c .before .before .before .before .before)) (c .before .before .before .before .if1 .left) _ _ (sym (ap toldUsize (c .before .e2 .given .1)) ∙ c .before .before .before .opponents-offset .ensures))
+returns-3 c =
+    refused-whole _ _ _ _ _ _ _ _
+    (refused-opponents _ _ _ _ _ _ (checked (c .before .before .before .before .before)) (c .before .before .before .before .if1 .left) _ _
+    (sym (ap toldUsize (c .before .e2 .given .1)) ∙ c .before .before .before .opponents-offset .ensures))
 
 same-length : tie.Need-same-length
 same-length c = search needs
@@ -84,7 +99,9 @@ same-length-2 : tie.Need-same-length-2
 same-length-2 c = search needs
 
 returns-4 : tie.Need-returns-4
-returns-4 c = let k = c .before .before .before .before .before .before .before in row-whole _ _ _ _ _ _ (accepted k) (answered k .1) _ _ (c .before .before .before .before .row-responses .ensures)
+returns-4 c =
+    let k = c .before .before .before .before .before .before .before in
+    row-whole _ _ _ _ _ _ (accepted k) (answered k .1) _ _ (c .before .before .before .before .row-responses .ensures)
 
 pub best-responses-spec : {M : Type 1} → statement M
 best-responses-spec =

@@ -1,15 +1,14 @@
 -- `best_response::count_best` meets its contract. The invariant: `number` is how many strategies before t reach the cell `top`.
 -- Assumes nothing.
 use mathlib.Core.Path.{_≡_, refl, sym, ap, subst, _∙_}
-use mathlib.Core.List.{[], _∷_}
 use mathlib.Core.Logic.{⊎-elim}
 use Prim.Native.Nat.{ℕ, _+_, _*_, _-_, _<_, _≤_}
 use native.Mathlib.Omega.{arith}
 use borrow.Author.Tests.{ltb-true, ltb-false, not-true, not-false}
 use lib.Dec.{T}
-use lib.ListN.{length, length-append}
+use lib.ListN.{length}
 use Rattle.best_response.specs.Row.{rowReaching}
-use Rattle.best_response.proofs.Row.{reaching-yes, reaching-not, reaching-few}
+use Rattle.best_response.proofs.Row.{reaching-one, reaching-not, reaching-few}
 use Rattle.best_response.proofs.count_best.Statement.{statement}
 use Rattle.best_response.proofs.count_best.Tie as tie
 
@@ -24,7 +23,9 @@ abbrev μ-loop : tie.MeasureT-loop
 cell : (c : tie.Then1 Inv-loop μ-loop) →
     let s = c .before .before .before .before .before .before in
     s .args .start + c .before .before .before .loop .t * s .args .step < length (s .args .payoffs .now)
-cell c = c .before .before .before .before .before .before .pre .1 .1 .0 (c .before .before .before .loop .t) (c .before .before .loop-test .taken)
+cell c =
+    c .before .before .before .before .before .before .pre .1 .1 .0 (c .before .before .before .loop .t)
+    (c .before .before .loop-test .taken)
 
 loop-holds : tie.Need-loop-holds Inv-loop μ-loop
 unfolding rowReaching
@@ -64,12 +65,16 @@ loop-again c =
       omega arith,
       ⊎-elim
           (λ w.
-          let yes = reaching-yes (a .payoffs .now) (a .marks .now) (a .place) (a .start) (a .step) (a .top) (l .t) (subst T (sym (w .0 .taken)) tt) (ltb-false _ _ (sym (w .1 .ensures) ∙ not-true _ (w .2 .taken))) in
-          omega (arith, w .3, l .inv .1, ap length yes, length-append (rowReaching (a .payoffs .now) (a .marks .now) (a .place) (a .start) (a .step) (l .t) (a .top)) (l .t ∷ [])))
-          (λ v.
-          ⊎-elim
-          (λ w. w .3 ∙ l .inv .1 ∙ sym (ap length (reaching-not _ _ _ _ _ _ (l .t) (λ _. ltb-true _ _ (sym (w .1 .ensures) ∙ not-false _ (w .2 .left))))))
-          (λ w. w .1 ∙ l .inv .1 ∙ sym (ap length (reaching-not _ _ _ _ _ _ (l .t) (λ on. absurd (subst T (w .0 .left) on))))) v)
+          w .3
+          ∙ ap (λ (n : ℕ). n + 1) (l .inv .1)
+          ∙ sym (reaching-one (a .payoffs .now) (a .marks .now) (a .place) (a .start) (a .step) (a .top) (l .t) (subst T (sym (w .0 .taken)) tt)
+          (ltb-false _ _ (sym (w .1 .ensures) ∙ not-true _ (w .2 .taken)))))
+          (⊎-elim
+          (λ w.
+          w .3
+          ∙ l .inv .1
+          ∙ sym (ap length (reaching-not _ _ _ _ _ _ (l .t) (λ _. ltb-true _ _ (sym (w .1 .ensures) ∙ not-false _ (w .2 .left))))))
+          (λ w. w .1 ∙ l .inv .1 ∙ sym (ap length (reaching-not _ _ _ _ _ _ (l .t) (λ on. absurd (subst T (w .0 .left) on))))))
           (c .if1 .came),
     )
 

@@ -16,11 +16,13 @@ Inv-loop counts player opponents players at₀ next₀ p₀ at next p = Walked c
 abbrev μ-loop : tie.MeasureT-loop
 μ-loop counts player opponents players at₀ next₀ p₀ at next p = length counts - p
 
--- the opponent at hand is one of those given, and its choice stands in the profile
-inside : (c : tie.Then2 Inv-loop μ-loop) → c .before .before .before .loop .next < length (c .before .before .before .before .before .args .opponents .now)
+-- the opponent at hand is one of those given
+inside : (c : tie.Then2 Inv-loop μ-loop) →
+    let s = c .before .before .before .before .before in c .before .before .before .loop .next < length (s .args .opponents .now)
 inside c =
-    let s = c .before .before .before .before .before in
-    walked-inside _ _ _ (s .pre .0) (s .pre .1) (c .before .before .before .before .if1 .left) (c .before .before .before .loop .inv) (c .before .before .loop-test .taken) (c .if2 .taken)
+    let (shape, mine) = c .before .before .before .before .before .pre in
+    walked-inside _ _ _ shape mine (c .before .before .before .before .if1 .left) (c .before .before .before .loop .inv)
+    (c .before .before .loop-test .taken) (c .if2 .taken)
 
 sub-if1 : tie.Need-sub-if1 Inv-loop μ-loop
 sub-if1 c = c .pre .0 .some
@@ -53,18 +55,22 @@ shared-slice-read-choice c = inside (c .before)
 returns-2 : tie.Need-returns-2 Inv-loop μ-loop
 returns-2 c =
     let k = c .before .before in
-    let s = k .before .before .before .before .before in
+    let (shape, mine) = k .before .before .before .before .before .pre in
+    let a = k .before .before .before .before .before .args in
     let l = k .before .before .before .loop in
     let many = k .before .before .before .before .if1 .left in
     let h = k .before .before .loop-test .taken in
-    let read = walked-read _ _ _ (s .pre .0) (s .pre .1) many (l .inv) h (k .if2 .taken) in
-    rw (bad-opponent (s .args .counts .now) (s .args .player) (s .args .opponents .now) (l .p) many h (k .if2 .taken) (l .inv .passed) (rw (← read) (c .if3 .taken)))
+    let read = walked-read _ _ _ shape mine many (l .inv) h (k .if2 .taken) in
+    rw
+    (bad-opponent (a .counts .now) (a .player) (a .opponents .now) (l .p) many h (k .if2 .taken) (l .inv .passed)
+    (rw (← read) (c .if3 .taken)))
 
 add-at : tie.Need-add-at Inv-loop μ-loop
 add-at c =
     let k = c .before .before in
+    let shape = k .before .before .before .before .before .pre .0 in
     let l = k .before .before .before .loop in
-    omega (arith, offset-room (k .before .before .before .before .before .pre .0) (l .at) _ (l .p) (k .before .before .loop-test .taken) (l .inv .under) (c .if3 .left))
+    omega (arith, offset-room shape (l .at) _ (l .p) (k .before .before .loop-test .taken) (l .inv .under) (c .if3 .left))
 
 add-next : tie.Need-add-next Inv-loop μ-loop
 add-next c = omega (arith, inside (c .before .before))

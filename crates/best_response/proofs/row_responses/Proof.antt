@@ -47,7 +47,8 @@ row c t l = rw (c .stride .ensures) (c .before .before .before .before .before .
 
 -- the cell of the lowest best one
 top : (c : tie.After-best) →
-    let s = c .before .before .before .before .before .before .before .before in start s + c .best .result * (c .before .before .stride .result * players s) < length (s .args .payoffs .now)
+    let s = c .before .before .before .before .before .before .before .before in
+    start s + c .best .result * (c .before .before .stride .result * players s) < length (s .args .payoffs .now)
 top c =
     row (c .before .before) (c .best .result)
     (rw (c .best .ensures) (lowest-below _ _ _ _ _ _ (some-strategy (c .before .before .before .before .before .before .before .before))))
@@ -56,7 +57,9 @@ top c =
 
 module _ (c : tie.After-count-best) where
   abbrev all : List ℕ
-  all = let a = c .before .before .before .before .before .before .before .before .before .before .args in rowResponses (a .counts .now) (a .payoffs .now) (a .player) (a .at)
+  all =
+      let a = c .before .before .before .before .before .before .before .before .before .before .args in
+      rowResponses (a .counts .now) (a .payoffs .now) (a .player) (a .at)
 
   -- the outputs' lengths
   abbrev room : ℕ
@@ -133,8 +136,7 @@ write-best-requires : tie.Need-write-best-requires
 write-best-requires c κs =
     let s = c .before .before .before .before .before .before .before .before .before .before .before .before .before .before .before in
     let k = c .before .before .before .before .before in
-    let e = k .count-best .ensures in
-    (
+    let e = k .count-best .ensures in (
       s .pre .0 .finites,
       (
         marks s,
@@ -153,9 +155,11 @@ unfolding rowAnswer rowUtilities
 returns-3 c =
     let k = c .before .before .before .before .before .before .before .before .before .before in
     let n = number k in
-    rw
-    (room-fits (length (all k)) (room k) (room′ k) (rw (← n) (c .before .before .before .before .before .before .before .before .before .if1 .left))
-    (rw (← n) (c .before .before .before .before .before .before .before .before .if2 .left)), take-length)
+    rw (
+      room-fits (length (all k)) (room k) (room′ k) (rw (← n) (c .before .before .before .before .before .before .before .before .before .if1 .left))
+          (rw (← n) (c .before .before .before .before .before .before .before .before .if2 .left)),
+      take-length,
+    )
     (ap values n, found-whole _ _ _ _ (k .before .before .before .before .stride .ensures) (k .before .before .best .ensures) _ _ (c .before .before .before .before .write-best .ensures))
 
 pub row-responses-spec : {M : Type 1} → statement M

@@ -22,10 +22,12 @@ abbrev μ-loop : tie.MeasureT-loop
 μ-loop payoffs marks place start step count own t₀ t = count - t
 
 -- the cell of the strategy at hand lies within the table
-cell : (c : tie.Then1 Inv-loop μ-loop)
-    → c .before .before .before .before .before .before .args .start + c .before .before .before .loop .t * c .before .before .before .before .before .before .args .step
-    < length (c .before .before .before .before .before .before .args .payoffs .now)
-cell c = c .before .before .before .before .before .before .pre .1 .1 .0 (c .before .before .before .loop .t) (c .before .before .loop-test .taken)
+cell : (c : tie.Then1 Inv-loop μ-loop) →
+    let s = c .before .before .before .before .before .before in
+    s .args .start + c .before .before .before .loop .t * s .args .step < length (s .args .payoffs .now)
+cell c =
+    c .before .before .before .before .before .before .pre .1 .1 .0 (c .before .before .before .loop .t)
+    (c .before .before .loop-test .taken)
 
 loop-holds : tie.Need-loop-holds Inv-loop μ-loop
 loop-holds c = (omega arith, λ u l. absurd (omega arith))
@@ -47,9 +49,9 @@ exceeds-requires c κs = let s = c .before .before .before .before .before .befo
 
 returns : tie.Need-returns Inv-loop μ-loop
 returns c =
-    let e = c .before .exceeds .ensures in
-    let l = c .before .before .before .before in
-    sym (exceeded _ _ _ _ _ _ _ (l .before .loop .t) (l .loop-test .taken) (subst T (sym (c .before .before .if1 .taken)) tt) (ltb-true _ _ (sym e ∙ c .if2 .taken)))
+    let k = c .before .before .before .before in
+    sym (exceeded _ _ _ _ _ _ _ (k .before .loop .t) (k .loop-test .taken) (subst T (sym (c .before .before .if1 .taken)) tt)
+    (ltb-true _ _ (sym (c .before .exceeds .ensures) ∙ c .if2 .taken)))
 
 add-t : tie.Need-add-t Inv-loop μ-loop
 add-t c = omega arith
@@ -58,7 +60,11 @@ loop-less : tie.Need-loop-less Inv-loop μ-loop
 loop-less c = omega arith
 
 loop-again : tie.Need-loop-again Inv-loop μ-loop
-loop-again c = (omega arith, below-more _ _ (c .before .before .before .loop .inv .1) (⊎-elim (λ w _. ltb-false _ _ (sym (w .1 .ensures) ∙ w .2 .left)) (λ w on. absurd (subst T (w .left) on)) (c .if1 .came)))
+loop-again c = (
+  omega arith,
+  below-more _ _ (c .before .before .before .loop .inv .1)
+      (⊎-elim (λ w _. ltb-false _ _ (sym (w .1 .ensures) ∙ w .2 .left)) (λ w on. absurd (subst T (w .left) on)) (c .if1 .came)),
+)
 
 returns-2 : tie.Need-returns-2 Inv-loop μ-loop
 returns-2 c = sym (test-true _ (unexceeded-T _ _ _ _ _ _ _ .1 (λ t l. c .before .loop .inv .1 t (omega arith))))

@@ -22,25 +22,28 @@ abbrev μ-loop : tie.MeasureT-loop
 cell : (c : tie.Then1 Inv-loop μ-loop) →
     let s = c .before .before .before .before .before .before .before .before in
     s .args .start + c .before .before .before .loop .t * s .args .step < length (s .args .payoffs .now)
-cell c = c .before .before .before .before .before .before .before .before .pre .1 .1 .0 (c .before .before .before .loop .t) (c .before .before .loop-test .taken)
+cell c =
+    c .before .before .before .before .before .before .before .before .pre .1 .1 .0 (c .before .before .before .loop .t)
+    (c .before .before .loop-test .taken)
 
 -- the outputs keep their lengths
 kept : (c : tie.At-loop Inv-loop μ-loop) →
     let a = c .before .before .before .before .before .args in
     (length (c .loop .strategies) ≡ length (a .strategies .now)) × (length (c .loop .utilities) ≡ length (a .utilities .now))
 kept c =
-    let s = c .before .before .before .before .before in
-    listed-length _ _ _ _ _ _ _ _ (s .args .count) (s .pre .1 .1 .1 .1 .0) (s .pre .1 .1 .1 .1 .1) (c .loop .inv .1) (c .loop .inv .0)
+    let (room, room′) = c .before .before .before .before .before .pre .1 .1 .1 .1 in
+    listed-length _ _ _ _ _ _ _ _ _ room room′ (c .loop .inv .1) (c .loop .inv .0)
 
 -- and have room for a strategy that is marked and not exceeded
 room : (c : tie.Then2 Inv-loop μ-loop) →
     let l = c .before .before .before .before .before .loop in
     (l .number < length (l .strategies)) × (l .number < length (l .utilities))
 room c =
-    let s = c .before .before .before .before .before .before .before .before .before .before in
+    let (room, room′) = c .before .before .before .before .before .before .before .before .before .before .pre .1 .1 .1 .1 in
     let l = c .before .before .before .before .before .loop in
-    listed-room _ _ _ _ _ _ _ _ (s .args .count) (s .pre .1 .1 .1 .1 .0) (s .pre .1 .1 .1 .1 .1) (l .inv .1) (c .before .before .before .before .loop-test .taken)
-    (subst T (sym (c .before .before .if1 .taken)) tt) (ltb-false _ _ (sym (c .before .exceeds .ensures) ∙ not-true _ (c .if2 .taken)))
+    listed-room _ _ _ _ _ _ _ _ _ room room′ (l .inv .1) (c .before .before .before .before .loop-test .taken)
+    (subst T (sym (c .before .before .if1 .taken)) tt)
+    (ltb-false _ _ (sym (c .before .exceeds .ensures) ∙ not-true _ (c .if2 .taken)))
 
 loop-holds : tie.Need-loop-holds Inv-loop μ-loop
 loop-holds c = (omega arith, listed-none _ _ _ _ _ _ _ _)
@@ -89,18 +92,19 @@ loop-less c = omega arith
 
 loop-again : tie.Need-loop-again Inv-loop μ-loop
 loop-again c =
-    let s = c .before .before .before .before .before .before .before .before in
+    let (room, room′) = c .before .before .before .before .before .before .before .before .pre .1 .1 .1 .1 in
     let l = c .before .before .before .loop in (
       omega arith,
       ⊎-elim
           (λ w.
           rw (w .4, w .5, w .6)
-          (listed-yes _ _ _ _ _ _ _ _ (s .args .count) (s .pre .1 .1 .1 .1 .0) (s .pre .1 .1 .1 .1 .1) (l .inv .1) (c .before .before .loop-test .taken)
-          (subst T (sym (w .0 .taken)) tt) (ltb-false _ _ (sym (w .1 .ensures) ∙ not-true _ (w .2 .taken)))))
-          (λ v.
-          ⊎-elim
-          (λ w. rw (w .3, w .4, w .5) (listed-not _ _ _ _ _ _ _ _ (s .args .count) (s .pre .1 .1 .1 .1 .0) (s .pre .1 .1 .1 .1 .1) (l .inv .1) (λ _. ltb-true _ _ (sym (w .1 .ensures) ∙ not-false _ (w .2 .left)))))
-          (λ w. rw (w .1, w .2, w .3) (listed-not _ _ _ _ _ _ _ _ (s .args .count) (s .pre .1 .1 .1 .1 .0) (s .pre .1 .1 .1 .1 .1) (l .inv .1) (λ on. absurd (subst T (w .0 .left) on)))) v)
+          (listed-yes _ _ _ _ _ _ _ _ _ room room′ (l .inv .1) (c .before .before .loop-test .taken) (subst T (sym (w .0 .taken)) tt)
+          (ltb-false _ _ (sym (w .1 .ensures) ∙ not-true _ (w .2 .taken)))))
+          (⊎-elim
+          (λ w.
+          rw (w .3, w .4, w .5)
+          (listed-not _ _ _ _ _ _ _ _ (l .inv .1) (λ _. ltb-true _ _ (sym (w .1 .ensures) ∙ not-false _ (w .2 .left)))))
+          (λ w. rw (w .1, w .2, w .3) (listed-not _ _ _ _ _ _ _ _ (l .inv .1) (λ on. absurd (subst T (w .0 .left) on)))))
           (c .if1 .came),
     )
 
@@ -111,9 +115,7 @@ same-length-2 : tie.Need-same-length-2 Inv-loop μ-loop
 same-length-2 c = kept (c .before) .1
 
 returns : tie.Need-returns Inv-loop μ-loop
-returns c =
-    let s = c .before .before .before .before .before .before in
-    listed-end _ _ _ _ _ _ _ _ (s .args .count) (s .pre .1 .1 .1 .1 .0) (s .pre .1 .1 .1 .1 .1) (c .before .loop .inv .1) (omega arith)
+returns c = listed-end _ _ _ _ _ _ _ _ (c .before .loop .inv .1) _ (omega arith)
 
 pub write-best-spec : {M : Type 1} → statement M
 write-best-spec =

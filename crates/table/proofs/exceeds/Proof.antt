@@ -44,7 +44,7 @@ returns c =
     let s = c .before .before .before .before .before .before in
     let held = c .before .before .before .before .before .shared-slice-known .given in
     c .exceeds .ensures
-    ∙ cells-greater (s .args .payoffs .now) (s .pre .1) held (s .args .cell) (s .args .other) (s .pre .0 .0) (s .pre .0 .1)
+    ∙ cells-greater (s .args .payoffs .now) (s .pre .1) (λ i _. held i) (s .args .cell) (s .args .other) (s .pre .0 .0) (s .pre .0 .1)
     (c .before .before .before .of-finite .ensures) (c .before .of-finite2 .ensures)
 
 pub exceeds-spec : {M : Type 1} → statement M
