@@ -9,7 +9,7 @@ use Rattle.utility.specs.Order.{finite, key, rank}
 use Rattle.table.specs.Table.{offset, payoffAt, tableGame}
 use Rattle.table.specs.Checks.{countRefusal, countsRefusal, payoffsRefusal, tableRefusal, playerRefusal}
 use Rattle.table.specs.Outputs.{roomRefusal, over}
-use Rattle.table.proofs.Examples.{minus-zero, zero, five, zeros, ties, pair, dilemma}
+use Rattle.table.proofs.Examples.{minus-zero, zero, zeros, ties, pair, dilemma}
 use Rattle.best_response.specs.Answers.{opponentsRefusal, responses, responseUtilities, responsesAnswer, responsesWritten}
 
 record Computed : Type 0 where

@@ -1,9 +1,9 @@
 -- Document 01's small games, computed: each line is true by the contracts' own definitions. Assumes nothing.
 use mathlib.Core.Path.{_≡_, refl}
 use mathlib.Core.Bool.{true, false}
-use mathlib.Core.List.{List, [], _∷_, flatMap}
+use mathlib.Core.List.{[], _∷_, flatMap}
 use lib.Ieee as Ieee
-use lib.Ieee.{Float, nan}
+use lib.Ieee.{nan}
 use Rattle.game.specs.Game.{strategies, profiles, whole, inside}
 use Rattle.game.specs.Solution.{gains, deviations, equilibrium, equilibria}
 use Rattle.refusal.specs.Told.{values, refused}
@@ -11,7 +11,7 @@ use Rattle.utility.specs.Order.{finite, key, rank}
 use Rattle.table.specs.Table.{offset, payoffAt, profilePart, tableGame}
 use Rattle.table.specs.Checks.{countRefusal, countsRefusal, payoffsRefusal, tableRefusal, profileRefusal}
 use Rattle.table.specs.Outputs.{roomRefusal, over}
-use Rattle.table.proofs.Examples.{minus-zero, zero, one, two, five, zeros, ties, pair, dilemma, pennies, twice}
+use Rattle.table.proofs.Examples.{minus-zero, zero, one, two, zeros, ties, pair, dilemma, pennies, twice}
 use Rattle.pure_nash.specs.Answers.{tableEquilibria, isEquilibriumAnswer, countAnswer, listingAnswer, listedChoices, listedUtilities, equilibriaAnswer, equilibriaChoices, equilibriaUtilities}
 
 record Computed : Type 0 where

@@ -4,24 +4,22 @@ use mathlib.Core.Path.{_≡_, refl, sym, ap, _∙_}
 use mathlib.Core.Bool.{Bool, true, false, cond}
 use mathlib.Core.List.{List, [], _∷_, map, flatMap}
 use mathlib.Core.Option.{none, some}
-use Prim.Native.Nat.{ℕ, zero, suc, _+_, _*_, _≤_, _<_, zero-le, suc-le-suc}
-use native.Mathlib.Nat.{not-suc-le-zero, le-of-suc-le-suc, le-trans, mul-comm, mul-le-mul-right}
+use Prim.Native.Nat.{ℕ, suc, _*_, _≤_, _<_, zero-le, suc-le-suc}
+use native.Mathlib.Nat.{not-suc-le-zero, le-of-suc-le-suc}
 use native.Mathlib.Omega.{arith}
 use lib.ListN.{length, getD, take, length-map}
 use lib.Seq.{take-length}
 use lib.Ieee.{Float}
 use Rattle.game.specs.Finite.{below, filter, product}
-use Rattle.game.specs.Game.{Marks, profiles, whole}
+use Rattle.game.specs.Game.{Marks, profiles}
 use Rattle.game.specs.Solution.{equilibrium, equilibria}
 use Rattle.game.proofs.Finite.{length-below}
 use Rattle.game.proofs.Game.{length-profiles}
 use Rattle.refusal.specs.Refusal.{Refusal, numberOf}
-use Rattle.refusal.specs.Told.{Told, values, refused, unless}
+use Rattle.refusal.specs.Told.{values, refused, unless}
 use Rattle.refusal.specs.declared.NormalFormError.{NormalFormError}
-use Rattle.table.specs.Limits.{maxCells}
 use Rattle.table.specs.Table.{profilePart, tableGame}
 use Rattle.table.specs.Marks.{marked}
-use Rattle.table.specs.Meaning.{Table}
 use Rattle.table.specs.Outputs.{roomRefusal, written, joined}
 use Rattle.pure_nash.specs.Answers.{listingAnswer, listedChoices, listedUtilities}
 use Rattle.pure_nash.specs.Found.{Found, chosen, foundAnswer, foundChoices, foundUtilities}

@@ -10,23 +10,21 @@ use table::MAX_MARKS;
 use table::MAX_STRATEGIES;
 ghost use mathlib.Core.Path.{_≡_};
 ghost use mathlib.Core.Bool.{false};
-ghost use mathlib.Core.List.{[], _++_, map, flatMap};
-ghost use mathlib.Core.Logic.{_⊎_};
+ghost use mathlib.Core.List.{[], _++_, flatMap};
 ghost use mathlib.Core.Option.{none};
 ghost use Prim.Native.Nat.{ℕ, _+_, _*_, _-_, _<_, _≤_};
-ghost use lib.Dec.{T};
 ghost use lib.ListN.{length, getD, take, drop};
 ghost use Rattle.game.specs.Finite.{all, below, product};
-ghost use Rattle.game.specs.Game.{profiles, whole};
+ghost use Rattle.game.specs.Game.{profiles};
 ghost use Rattle.game.specs.Solution.{equilibria};
-ghost use Rattle.refusal.specs.Told.{toldBool, toldUsize, unless};
+ghost use Rattle.refusal.specs.Told.{toldBool, toldUsize};
 ghost use Rattle.table.specs.Limits.{maxMarks};
-ghost use Rattle.table.specs.Table.{profilePart, stride, cellRank, tableGame};
+ghost use Rattle.table.specs.Table.{profilePart, stride, tableGame};
 ghost use Rattle.table.specs.Marks.{marked};
 ghost use Rattle.table.specs.Meaning.{Finites, Table};
 ghost use Rattle.table.specs.Outputs.{over};
 ghost use Rattle.pure_nash.specs.Answers.{isEquilibriumAnswer, countAnswer, listingAnswer, listedChoices, listedUtilities, equilibriaAnswer, equilibriaChoices, equilibriaUtilities};
-ghost use Rattle.pure_nash.specs.Found.{settledAt, equilibriumAt, Known, Noted, Found, chosen, foundAnswer, foundChoices, foundUtilities};
+ghost use Rattle.pure_nash.specs.Found.{settledAt, Known, Noted, Found, chosen, foundAnswer, foundChoices, foundUtilities};
 
 // ---- the test of a profile
 

@@ -13,7 +13,7 @@ use lib.ListN.{length, getD, set}
 use lib.Seq.{getD-set-same, getD-set-other}
 use lib.Ieee.{Float}
 use Rattle.game.specs.Finite.{product}
-use Rattle.game.specs.Game.{choice, Profile, profiles}
+use Rattle.game.specs.Game.{Profile, profiles}
 use Rattle.game.specs.Meaning.{Dominator}
 use Rattle.game.proofs.Finite.{le-or-lt}
 use Rattle.game.proofs.Game.{set-profile}

@@ -13,7 +13,6 @@ use Rattle.game.specs.Finite.{_⇒_, all, below, product}
 use Rattle.game.specs.Game.{choice, profiles, Marks}
 use Rattle.game.proofs.Finite.{all-T, below-mem, imp-T, no-T, eqb-T}
 use Rattle.table.specs.Limits.{maxStrategies, maxMarks}
-use Rattle.table.specs.Table.{stride}
 use Rattle.table.specs.Marks.{marked}
 use Rattle.table.specs.Meaning.{Shape}
 use Rattle.table.proofs.Offsets.{nth-choice, nth-profile}

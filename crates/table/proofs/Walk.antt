@@ -4,23 +4,23 @@ use mathlib.Core.Path.{_≡_, refl, sym, ap, _∙_}
 use mathlib.Core.Bool.{Bool, true, false}
 use mathlib.Core.List.{List, []}
 use Prim.Native.Nat.{ℕ, suc, _+_, _*_, _-_, _/_, _%_, _≤_, _<_}
-use native.Mathlib.Nat.{mul-comm, mul-assoc, add-mul, zero-mul, add-zero, le-mul-of-pos-right, mul-le-mul-right, le-trans}
+use native.Mathlib.Nat.{mul-comm, mul-assoc, add-mul, zero-mul, le-mul-of-pos-right, mul-le-mul-right, le-trans}
 use native.Mathlib.Omega.{arith}
 use lib.Arith.{digits-lt}
-use lib.Dec.{T, ltb, lt→ltb}
+use lib.Dec.{ltb, lt→ltb}
 use lib.ListN.{length, getD, set, take, drop, replicate, getD-replicate}
 use lib.Ieee.{Float}
 use Rattle.game.specs.Finite.{product}
-use Rattle.game.specs.Game.{choice, Profile, profiles, whole}
+use Rattle.game.specs.Game.{Profile, profiles, whole}
 use Rattle.game.specs.Ordinal.{SameMarks}
 use Rattle.game.proofs.Finite.{test-true}
 use Rattle.game.proofs.Game.{set-profile, whole-law}
 use Rattle.table.specs.Limits.{maxPlayers, maxStrategies, maxCells, maxMarks}
 use Rattle.table.specs.Table.{cells, offset, stride, cell, payoffAt, cellRank, tableGame}
-use Rattle.table.specs.Marks.{markPlace, marked}
-use Rattle.table.specs.Meaning.{Shape, Table}
+use Rattle.table.specs.Marks.{marked}
+use Rattle.table.specs.Meaning.{Shape}
 use Rattle.table.proofs.Products.{product-positive}
-use Rattle.table.proofs.Offsets.{product-drop, take-at-most, drop-at-most, drop-positive, offset-so-far, offset-set, offset-below, cell-below, nth-profile, walk-base}
+use Rattle.table.proofs.Offsets.{product-drop, take-at-most, drop-at-most, drop-positive, offset-so-far, offset-set, cell-below, walk-base}
 
 -- ---- counts without a refusal
 

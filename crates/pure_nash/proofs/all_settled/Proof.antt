@@ -4,23 +4,19 @@ use native.Mathlib.Omega.{arith}
 use native.Mathlib.Nat.{le-refl, eq-or-lt-of-le}
 use borrow.Author.Tests.{not-true, not-false}
 use mathlib.Core.Path.{_≡_, refl, sym, ap, _∙_, subst, subst⁻¹}
-use mathlib.Core.Bool.{Bool, true, false, not}
-use mathlib.Core.List.{List, []}
+use mathlib.Core.Bool.{Bool, true, false}
 use mathlib.Core.Logic.{⊎-elim}
-use Prim.Native.Nat.{ℕ, suc, _+_, _*_, _-_, _≤_, _<_}
+use Prim.Native.Nat.{ℕ, _+_, _*_, _-_, _≤_, _<_}
 use lib.Arith.{digits-lt}
 use lib.Dec.{T}
-use lib.ListN.{length, getD, drop}
-use Rattle.game.specs.Finite.{all, below, product}
+use lib.ListN.{length, drop}
+use Rattle.game.specs.Finite.{below, product}
 use Rattle.game.proofs.Finite.{all-T, below-mem, test-true, test-false}
 use Rattle.table.specs.Limits.{maxCells}
 use Rattle.table.proofs.Walk.{Down, down}
 use Rattle.pure_nash.specs.Found.{settledAt, Known}
 use Rattle.pure_nash.proofs.all_settled.Statement.{statement}
 use Rattle.pure_nash.proofs.all_settled.Tie as tie
-use Rattle.pure_nash.proofs.all_settled.Reads as reads
-use Rattle.pure_nash.proofs.all_settled.Lts as lts
-use Rattle.pure_nash.proofs.settle.Reads as settle-reads
 
 abbrev Inv-loop : tie.InvT-loop
 Inv-loop counts payoffs marks known₀ number after k stride₀ p₀ known stride p =
@@ -46,29 +42,23 @@ turn c =
     let d = down (s .args .counts .now) (l .p) (l .stride) (table .shape) (c .loop-test .taken) (omega (arith, l .inv .0, at .0)) (l .inv .1) in
     (d, rw (table .full) (digits-lt (at .1) (d .inside)), rw (table .full) (table .shape .room))
 
--- src/lib.rt:121:5
 loop-holds : tie.Need-loop-holds Inv-loop μ-loop
 loop-holds c =
     let s = c .before .before .before .before in
     (le-refl _, s .pre .1 .1 .1 .1, λ q l k. absurd (omega arith), refl, s .pre .1 .1 .0)
 
--- src/lib.rt:122:9
 sub-p : tie.Need-sub-p Inv-loop μ-loop
 sub-p c = omega arith
 
--- src/lib.rt:123:20
 mul-cell : tie.Need-mul-cell Inv-loop μ-loop
 mul-cell c = omega (arith, turn c)
 
--- src/lib.rt:123:20
 add-cell : tie.Need-add-cell Inv-loop μ-loop
 add-cell c = omega (arith, turn c)
 
--- src/lib.rt:126:20
 slice-read-best : tie.Need-slice-read-best Inv-loop μ-loop
 slice-read-best c = omega arith
 
--- src/lib.rt:129:17
 settle-requires : tie.Need-settle-requires Inv-loop μ-loop
 settle-requires c κs =
     let s = c .before .before .before .before .before .before .before .before .before in
@@ -77,11 +67,9 @@ settle-requires c κs =
     let e : l .p ≡ l .p - 1 + 1 = omega arith in
     (s .pre .0, (s .pre .1 .0, (l .inv .4, ((turn i .0 .inside, s .pre .1 .1 .1 .0 .1), l .inv .1 ∙ ap (λ (n : ℕ). product (drop n (s .args .counts .now))) e))))
 
--- src/lib.rt:130:17
 same-length : tie.Need-same-length Inv-loop μ-loop
 same-length c = c .before .before .known .given ∙ c .before .before .before .before .before .before .before .before .loop .inv .3
 
--- src/lib.rt:130:17
 returns : tie.Need-returns Inv-loop μ-loop
 returns c =
     let s = c .before .before .before .before .before .before .before .before .before .before .before .before .before in
@@ -93,23 +81,18 @@ returns c =
       call .settle .ensures .1,
     )
 
--- src/lib.rt:133:19
 mul-stride : tie.Need-mul-stride Inv-loop μ-loop
 mul-stride c = omega (arith, turn (c .before .before))
 
--- src/lib.rt:133:19
 shared-slice-read-stride : tie.Need-shared-slice-read-stride Inv-loop μ-loop
 shared-slice-read-stride c = turn (c .before .before .before) .0 .inside
 
--- src/lib.rt:133:9
 mul-stride-2 : tie.Need-mul-stride-2 Inv-loop μ-loop
 mul-stride-2 c = omega (arith, turn (c .before .before .before))
 
--- src/lib.rt:121:5
 loop-less : tie.Need-loop-less Inv-loop μ-loop
 loop-less c = omega arith
 
--- src/lib.rt:121:5
 loop-again : tie.Need-loop-again Inv-loop μ-loop
 loop-again c =
     let s = c .before .before .before .before .before .before .before .before .before in
@@ -141,11 +124,9 @@ loop-again c =
     ))
     (c .before .if2 .came)
 
--- src/lib.rt:102:1
 same-length-2 : tie.Need-same-length-2 Inv-loop μ-loop
 same-length-2 c = c .before .loop .inv .3
 
--- src/lib.rt:102:1
 returns-2 : tie.Need-returns-2 Inv-loop μ-loop
 returns-2 c =
     let s = c .before .before .before .before .before .before in

@@ -1,5 +1,5 @@
 -- `pure_nash::count_equilibria` meets its contract: the count among marks on every place is the whole table's. Assumes nothing.
-use mathlib.Core.Path.{_≡_, refl, sym, ap, _∙_}
+use mathlib.Core.Path.{refl, sym, ap, _∙_}
 use Prim.Native.Nat.{ℕ}
 use lib.ListN.{length}
 use Rattle.refusal.specs.Refusal.{Refusal}
@@ -12,10 +12,6 @@ use Rattle.pure_nash.proofs.Laws.{whole-equilibria}
 use borrow.Author.Needs.{needs}
 use Rattle.pure_nash.proofs.count_equilibria.Statement.{statement}
 use Rattle.pure_nash.proofs.count_equilibria.Tie as tie
-use Rattle.pure_nash.proofs.count_equilibria.Reads as reads
-use Rattle.pure_nash.proofs.count_equilibria.Lts as lts
-use Rattle.pure_nash.proofs.marked_count.Reads as marked-count-reads
-use Rattle.table.proofs.table_profile_count.Reads as table-profile-count-reads
 
 -- the arm where the table has no refusal
 checked : (c : tie.After-total) → let s = c .before .before .before .before .before .args in TableTold (s .counts .now) (s .payoffs .now) (c .total .given .0 .0)
@@ -23,27 +19,21 @@ checked c =
     let s = c .before .before .before .before .before .args in
     table-told (s .counts .now) (s .payoffs .now) (c .total .given .0 .0) (sym (ap toldUsize (c .total .given .1)) ∙ c .before .before .table-profile-count .ensures)
 
--- src/lib.rt:372:11
 table-profile-count-requires : tie.Need-table-profile-count-requires
 table-profile-count-requires c κs = search needs
 
--- src/lib.rt:373:26
 enum-known-e : tie.Need-enum-known-e
 enum-known-e c = search needs
 
--- src/lib.rt:374:25
 enum-known-total : tie.Need-enum-known-total
 enum-known-total c = search needs
 
--- src/lib.rt:376:59
 slice-aggregate-marked-count : tie.Need-slice-aggregate-marked-count
 slice-aggregate-marked-count c = search needs
 
--- src/lib.rt:376:29
 marked-count-requires : tie.Need-marked-count-requires
 marked-count-requires c κs = let f = checked (c .before .before) in (f .table, (refl, f .is))
 
--- src/lib.rt:369:1
 returns : tie.Need-returns
 unfolding countAnswer
 returns c =
@@ -51,7 +41,6 @@ returns c =
     let a = k .before .before .before .before .before .args in
     refused-again (tableRefusal (a .counts .now) (a .payoffs .now)) _ _ _ (sym (ap toldUsize (k .e .given .1)) ∙ k .before .before .table-profile-count .ensures)
 
--- src/lib.rt:369:1
 returns-2 : tie.Need-returns-2
 unfolding countAnswer
 returns-2 c =

@@ -1,20 +1,16 @@
 -- `pure_nash::count_found` meets its contract: those counted and those to come are all. Assumes nothing.
 use native.Mathlib.Omega.{arith}
-use native.Mathlib.Nat.{le-refl}
-use mathlib.Core.Path.{_≡_, refl, sym, ap, _∙_}
-use mathlib.Core.Bool.{Bool, true, false}
+use mathlib.Core.Path.{_≡_, ap}
 use mathlib.Core.List.{List}
 use mathlib.Core.Logic.{⊎-elim}
-use Prim.Native.Nat.{ℕ, suc, _+_, _*_, _-_, _≤_, _<_}
-use lib.ListN.{length, getD, drop}
+use Prim.Native.Nat.{ℕ, _+_, _-_, _≤_, _<_}
+use lib.ListN.{length, drop}
 use Rattle.game.specs.Finite.{below}
 use Rattle.game.proofs.Finite.{length-below}
 use Rattle.pure_nash.specs.Found.{chosen}
 use Rattle.pure_nash.proofs.Write.{chosen-yes, chosen-no, chosen-end}
 use Rattle.pure_nash.proofs.count_found.Statement.{statement}
 use Rattle.pure_nash.proofs.count_found.Tie as tie
-use Rattle.pure_nash.proofs.count_found.Reads as reads
-use Rattle.pure_nash.proofs.count_found.Lts as lts
 
 abbrev Inv-loop : tie.InvT-loop
 Inv-loop found total number₀ k₀ number k = (k ≤ total) × (number ≤ k) × (number + length (chosen (drop k found) (drop k (below total))) ≡ length (chosen found (below total)))
@@ -22,27 +18,21 @@ Inv-loop found total number₀ k₀ number k = (k ≤ total) × (number ≤ k) �
 abbrev μ-loop : tie.MeasureT-loop
 μ-loop found total number₀ k₀ number k = total - k
 
--- src/lib.rt:74:5
 loop-holds : tie.Need-loop-holds Inv-loop μ-loop
 loop-holds c = (omega arith, omega arith, omega arith)
 
--- src/lib.rt:75:12
 shared-slice-read-if1 : tie.Need-shared-slice-read-if1 Inv-loop μ-loop
 shared-slice-read-if1 c = omega arith
 
--- src/lib.rt:76:13
 add-number : tie.Need-add-number Inv-loop μ-loop
 add-number c = omega arith
 
--- src/lib.rt:78:9
 add-k : tie.Need-add-k Inv-loop μ-loop
 add-k c = omega arith
 
--- src/lib.rt:74:5
 loop-less : tie.Need-loop-less Inv-loop μ-loop
 loop-less c = omega arith
 
--- src/lib.rt:74:5
 loop-again : tie.Need-loop-again Inv-loop μ-loop
 loop-again c =
     let s = c .before .before .before .before .args in
@@ -56,7 +46,6 @@ loop-again c =
     (λ w. (omega arith, omega (arith, w .1), omega (arith, l .inv .2, w .1, ap length (chosen-no bs xs 0 (l .k) (omega arith) h (w .0 .left)))))
     (c .if1 .came)
 
--- src/lib.rt:68:1
 returns : tie.Need-returns Inv-loop μ-loop
 returns c =
     let s = c .before .before .args in

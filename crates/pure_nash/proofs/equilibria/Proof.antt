@@ -1,5 +1,5 @@
 -- `pure_nash::equilibria` meets its contract: the listing among marks on every place is the whole table's. Assumes nothing.
-use mathlib.Core.Path.{_≡_, refl, sym, ap, _∙_}
+use mathlib.Core.Path.{refl, sym, ap, _∙_}
 use mathlib.Core.Bool.{true}
 use mathlib.Core.List.{List}
 use Prim.Native.Nat.{ℕ}
@@ -22,10 +22,6 @@ use Rattle.pure_nash.proofs.Laws.{whole-equilibria}
 use borrow.Author.Needs.{needs}
 use Rattle.pure_nash.proofs.equilibria.Statement.{statement}
 use Rattle.pure_nash.proofs.equilibria.Tie as tie
-use Rattle.pure_nash.proofs.equilibria.Reads as reads
-use Rattle.pure_nash.proofs.equilibria.Lts as lts
-use Rattle.pure_nash.proofs.marked_equilibria.Reads as marked-equilibria-reads
-use Rattle.table.proofs.table_profile_count.Reads as table-profile-count-reads
 
 -- the arm where the table has no refusal
 checked : (c : tie.After-total) → let s = c .before .before .before .before .before .before .before .args in TableTold (s .counts .now) (s .payoffs .now) (c .total .given .0 .0)
@@ -33,27 +29,21 @@ checked c =
     let s = c .before .before .before .before .before .before .before .args in
     table-told (s .counts .now) (s .payoffs .now) (c .total .given .0 .0) (sym (ap toldUsize (c .total .given .1)) ∙ c .before .before .table-profile-count .ensures)
 
--- src/lib.rt:394:11
 table-profile-count-requires : tie.Need-table-profile-count-requires
 table-profile-count-requires c κs = search needs
 
--- src/lib.rt:395:26
 enum-known-e : tie.Need-enum-known-e
 enum-known-e c = search needs
 
--- src/lib.rt:396:25
 enum-known-total : tie.Need-enum-known-total
 enum-known-total c = search needs
 
--- src/lib.rt:398:48
 slice-aggregate-marked-equilibria : tie.Need-slice-aggregate-marked-equilibria
 slice-aggregate-marked-equilibria c = search needs
 
--- src/lib.rt:398:13
 marked-equilibria-requires : tie.Need-marked-equilibria-requires
 marked-equilibria-requires c κs = let f = checked (c .before .before .before .before) in (f .table, (refl, f .is))
 
--- src/lib.rt:384:1
 returns : tie.Need-returns
 returns c =
     let k = c .before in
@@ -63,15 +53,12 @@ returns c =
     let r = listing-refused (a .counts .now) (a .payoffs .now) (length (a .choices .now)) (length (a .utilities .now)) (whole g) (tableRefusal (a .counts .now) (a .payoffs .now)) e is in
     (ap (λ (n : ℕ). refused n) number ∙ r .0, (sym (ap (λ (xs : List ℕ). over xs (a .choices .now)) (r .1)), sym (ap (λ (xs : List Float). over xs (a .utilities .now)) (r .2))))
 
--- src/lib.rt:384:1
 same-length : tie.Need-same-length
 same-length c = search needs
 
--- src/lib.rt:384:1
 same-length-2 : tie.Need-same-length-2
 same-length-2 c = search needs
 
--- src/lib.rt:384:1
 returns-2 : tie.Need-returns-2
 returns-2 c =
     let a = c .before .before .before .before .before .before .before .before .before .before .before .before .before .before .before .before .args in

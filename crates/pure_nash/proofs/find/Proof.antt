@@ -1,21 +1,16 @@
 -- `pure_nash::find` meets its contract: row after row, and those before the k-th profile are found. Assumes nothing.
 use native.Mathlib.Omega.{arith}
 use native.Mathlib.Nat.{zero-mul, suc-mul}
-use mathlib.Core.Path.{_≡_, refl, sym, ap, _∙_}
-use mathlib.Core.Bool.{Bool}
-use mathlib.Core.List.{List}
+use mathlib.Core.Path.{_≡_, refl, sym, _∙_}
 use Prim.Native.Nat.{ℕ, suc, _+_, _*_, _-_, _≤_, _<_}
-use lib.ListN.{length, getD, drop}
+use lib.ListN.{length, getD}
 use Rattle.game.specs.Finite.{product}
-use Rattle.table.specs.Limits.{maxCells, maxStrategies}
+use Rattle.table.specs.Limits.{maxCells}
 use Rattle.table.proofs.Walk.{shape-room}
 use Rattle.pure_nash.specs.Found.{Known, Found}
-use Rattle.pure_nash.proofs.Rows.{last-count, row-room}
+use Rattle.pure_nash.proofs.Rows.{row-room}
 use Rattle.pure_nash.proofs.find.Statement.{statement}
 use Rattle.pure_nash.proofs.find.Tie as tie
-use Rattle.pure_nash.proofs.find.Reads as reads
-use Rattle.pure_nash.proofs.find.Lts as lts
-use Rattle.pure_nash.proofs.find_row.Reads as find-row-reads
 
 abbrev Inv-loop : tie.InvT-loop
 Inv-loop counts payoffs marks total known₀ found₀ count k₀ known found k =
@@ -44,25 +39,20 @@ room c =
       s .pre .0 .shape .low (length (s .args .counts .now) - 1) (omega arith),
     )
 
--- src/lib.rt:193:24
 sub-count : tie.Need-sub-count Inv-loop μ-loop
 sub-count c = c .before .before .before .before .before .pre .0 .shape .some
 
--- src/lib.rt:193:17
 mul-count : tie.Need-mul-count Inv-loop μ-loop
 mul-count c = omega (arith, c .before .before .before .before .before .pre .0 .shape .few)
 
--- src/lib.rt:193:17
 shared-slice-read-count : tie.Need-shared-slice-read-count Inv-loop μ-loop
 shared-slice-read-count c = omega (arith, c .before .before .before .before .before .before .pre .0 .shape .some)
 
--- src/lib.rt:195:5
 loop-holds : tie.Need-loop-holds Inv-loop μ-loop
 loop-holds c =
     let s = c .before .before .before .before .before .before in
     ((0, sym (zero-mul _)), omega arith, refl, refl, s .pre .1 .1 .1 .0, λ k l. absurd (omega arith))
 
--- src/lib.rt:196:9
 find-row-requires : tie.Need-find-row-requires Inv-loop μ-loop
 find-row-requires c κs =
     let s = c .before .before .before .before .before .before .before .before .before .before in
@@ -70,15 +60,12 @@ find-row-requires c κs =
     let r = room (c .before .before) in
     (s .pre .0, (s .pre .1 .0, (l .inv .4, (l .inv .5, (omega (arith, l .inv .3, s .pre .1 .1 .1 .1), (l .inv .0 .0, l .inv .0 .1, r .0))))))
 
--- src/lib.rt:197:9
 add-k : tie.Need-add-k Inv-loop μ-loop
 add-k c = omega (arith, room (c .before .before .before .before .before .before .before))
 
--- src/lib.rt:195:5
 loop-less : tie.Need-loop-less Inv-loop μ-loop
 loop-less c = omega (arith, room (c .before .before .before .before .before .before .before), c .before .before .before .before .before .before .before .before .before .before .before .before .before .before .before .pre .1 .1 .0)
 
--- src/lib.rt:195:5
 loop-again : tie.Need-loop-again Inv-loop μ-loop
 loop-again c =
     let s = c .before .before .before .before .before .before .before .before .before .before .before .before .before .before .before in
@@ -93,15 +80,12 @@ loop-again c =
       call .ensures .1,
     )
 
--- src/lib.rt:178:1
 same-length : tie.Need-same-length Inv-loop μ-loop
 same-length c = c .before .loop .inv .2
 
--- src/lib.rt:178:1
 same-length-2 : tie.Need-same-length-2 Inv-loop μ-loop
 same-length-2 c = c .before .loop .inv .3
 
--- src/lib.rt:178:1
 returns : tie.Need-returns Inv-loop μ-loop
 returns c = λ k h. c .before .loop .inv .5 k (omega (arith, c .before .before .before .before .before .before .before .before .pre .1 .1 .0))
 

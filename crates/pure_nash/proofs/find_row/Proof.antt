@@ -1,27 +1,20 @@
 -- `pure_nash::find_row` meets its contract: the profiles of the row before the t-th are found or not as they are equilibria, by the best of
 -- the row for the last player and by `all_settled` for the others. Assumes nothing.
 use native.Mathlib.Omega.{arith}
-use native.Mathlib.Nat.{le-refl}
 use borrow.Author.Tests.{not-true, not-false}
-use mathlib.Core.Path.{_≡_, refl, sym, ap, _∙_, subst, subst⁻¹}
-use mathlib.Core.Bool.{Bool, true, false, not}
-use mathlib.Core.List.{List, []}
+use mathlib.Core.Path.{_≡_, refl, sym, ap, _∙_, subst⁻¹}
+use mathlib.Core.Bool.{true, false}
 use mathlib.Core.Logic.{⊎-elim}
-use Prim.Native.Nat.{ℕ, suc, _+_, _*_, _-_, _≤_, _<_}
+use Prim.Native.Nat.{ℕ, _+_, _*_, _-_, _≤_, _<_}
 use lib.Dec.{T}
-use lib.ListN.{length, getD, set, drop, length-set}
-use Rattle.game.specs.Finite.{all, below, product}
+use lib.ListN.{length, getD, set, length-set}
+use Rattle.game.specs.Finite.{below}
 use Rattle.table.specs.Limits.{maxCells}
 use Rattle.best_response.proofs.Row.{lowest-below}
-use Rattle.pure_nash.specs.Found.{settledAt, equilibriumAt, Known, Found}
+use Rattle.pure_nash.specs.Found.{equilibriumAt, Known, Found}
 use Rattle.pure_nash.proofs.Rows.{found-more, row-struck, row-exceeded, row-reached, Row, row-facts}
 use Rattle.pure_nash.proofs.find_row.Statement.{statement}
 use Rattle.pure_nash.proofs.find_row.Tie as tie
-use Rattle.pure_nash.proofs.find_row.Reads as reads
-use Rattle.pure_nash.proofs.find_row.Lts as lts
-use Rattle.best_response.proofs.best.Reads as best-reads
-use Rattle.pure_nash.proofs.all_settled.Reads as all-settled-reads
-use Rattle.table.proofs.exceeds.Reads as exceeds-reads
 
 abbrev Inv-loop : tie.InvT-loop
 Inv-loop counts payoffs marks known₀ found₀ k players last count place start top t₀ known found t =
@@ -52,68 +45,53 @@ top c =
     let below = lowest-below (s .args .payoffs .now) (s .args .marks .now) _ _ _ (getD (s .args .counts .now) (length (s .args .counts .now) - 1) 0) (r .low) in
     (r .inside (c .best .result) (rw (c .best .ensures) below), r .room)
 
--- src/lib.rt:159:16
 sub-last : tie.Need-sub-last Inv-loop μ-loop
 sub-last c = c .before .before .before .before .before .pre .0 .shape .some
 
--- src/lib.rt:160:17
 mul-count : tie.Need-mul-count Inv-loop μ-loop
 mul-count c = omega (arith, facts (c .before .before .before .before .before))
 
--- src/lib.rt:160:17
 shared-slice-read-count : tie.Need-shared-slice-read-count Inv-loop μ-loop
 shared-slice-read-count c = facts (c .before .before .before .before .before .before) .mine
 
--- src/lib.rt:161:17
 mul-place : tie.Need-mul-place Inv-loop μ-loop
 mul-place c = omega (arith, facts (c .before .before .before .before .before .before))
 
--- src/lib.rt:162:17
 mul-start : tie.Need-mul-start Inv-loop μ-loop
 mul-start c = omega (arith, facts (c .before .before .before .before .before .before))
 
--- src/lib.rt:162:17
 add-start : tie.Need-add-start Inv-loop μ-loop
 add-start c = omega (arith, facts (c .before .before .before .before .before .before))
 
--- src/lib.rt:163:23
 best-requires : tie.Need-best-requires Inv-loop μ-loop
 best-requires c κs =
     let s = c .before .before .before .before .before .before in
     let r = facts s in
     (s .pre .0 .finites, (omega (arith, r, s .pre .1 .0), (r .inside, r .low)))
 
--- src/lib.rt:163:23
 mul-top : tie.Need-mul-top Inv-loop μ-loop
 mul-top c = omega (arith, top c)
 
--- src/lib.rt:163:15
 add-top : tie.Need-add-top Inv-loop μ-loop
 add-top c = omega (arith, top c)
 
--- src/lib.rt:165:5
 loop-holds : tie.Need-loop-holds Inv-loop μ-loop
 loop-holds c =
     let s = c .before .before .before .before .before .before .before in
     (omega arith, refl, refl, s .pre .1 .1 .0, λ j l. s .pre .1 .1 .1 .0 j (omega arith))
 
--- src/lib.rt:167:18
 add-if1 : tie.Need-add-if1 Inv-loop μ-loop
 add-if1 c = omega (arith, facts (c .before .before .before .before .before .before .before .before .before))
 
--- src/lib.rt:167:12
 shared-slice-read-if1 : tie.Need-shared-slice-read-if1 Inv-loop μ-loop
 shared-slice-read-if1 c = omega (arith, facts (c .before .before .before .before .before .before .before .before .before .before), c .before .before .before .before .before .before .before .before .before .before .pre .1 .0)
 
--- src/lib.rt:168:54
 mul-exceeds : tie.Need-mul-exceeds Inv-loop μ-loop
 mul-exceeds c = omega (arith, facts (c .before .before .before .before .before .before .before .before .before .before .before), facts (c .before .before .before .before .before .before .before .before .before .before .before) .inside (c .before .before .before .loop .t) (c .before .before .loop-test .taken))
 
--- src/lib.rt:168:46
 add-exceeds : tie.Need-add-exceeds Inv-loop μ-loop
 add-exceeds c = omega (arith, facts (c .before .before .before .before .before .before .before .before .before .before .before), facts (c .before .before .before .before .before .before .before .before .before .before .before) .inside (c .before .before .before .loop .t) (c .before .before .loop-test .taken))
 
--- src/lib.rt:168:17
 exceeds-requires : tie.Need-exceeds-requires Inv-loop μ-loop
 exceeds-requires c κs =
     let s = c .before .before .before .before .before .before .before .before .before .before .before in
@@ -121,11 +99,9 @@ exceeds-requires c κs =
     let best = top (c .before .before .before .before) .0 in
     ((omega (arith, mine, best), omega (arith, mine, best)), s .pre .0 .finites)
 
--- src/lib.rt:169:78
 add-all-settled : tie.Need-add-all-settled Inv-loop μ-loop
 add-all-settled c = omega (arith, facts (c .before .before .before .before .before .before .before .before .before .before .before .before .before .before), c .before .before .before .before .before .before .before .before .before .before .before .before .before .before .pre .1 .1 .1 .1)
 
--- src/lib.rt:169:17
 all-settled-requires : tie.Need-all-settled-requires Inv-loop μ-loop
 all-settled-requires c κs =
     let s = c .before .before .before .before .before .before .before .before .before .before .before .before .before .before in
@@ -133,23 +109,18 @@ all-settled-requires c κs =
     let r = facts s in
     (s .pre .0, (s .pre .1 .0, (l .inv .3, ((omega (arith, r .mine), omega (arith, s .pre .1 .1 .1 .1)), r .after))))
 
--- src/lib.rt:172:15
 add-found : tie.Need-add-found Inv-loop μ-loop
 add-found c = omega (arith, facts (c .before .before .before .before .before .before .before .before .before .before .before), c .before .before .before .before .before .before .before .before .before .before .before .pre .1 .1 .1 .1)
 
--- src/lib.rt:172:9
 slice-write-found : tie.Need-slice-write-found Inv-loop μ-loop
 slice-write-found c = omega (arith, c .before .before .before .before .before .before .before .before .before .before .before .pre .1 .1 .1 .1)
 
--- src/lib.rt:173:9
 add-t : tie.Need-add-t Inv-loop μ-loop
 add-t c = omega (arith, facts (c .before .before .before .before .before .before .before .before .before .before .before))
 
--- src/lib.rt:165:5
 loop-less : tie.Need-loop-less Inv-loop μ-loop
 loop-less c = omega arith
 
--- src/lib.rt:165:5
 loop-again : tie.Need-loop-again Inv-loop μ-loop
 loop-again c =
     let s = c .before .before .before .before .before .before .before .before .before .before .before in
@@ -191,15 +162,12 @@ loop-again c =
     (λ w. next (w .2 ∙ test (w .0 .left)) (same (w .1) .0) (same (w .1) .1)))
     (c .if1 .came)
 
--- src/lib.rt:141:1
 same-length : tie.Need-same-length Inv-loop μ-loop
 same-length c = c .before .loop .inv .1
 
--- src/lib.rt:141:1
 same-length-2 : tie.Need-same-length-2 Inv-loop μ-loop
 same-length-2 c = c .before .loop .inv .2
 
--- src/lib.rt:141:1
 returns : tie.Need-returns Inv-loop μ-loop
 returns c =
     let l = c .before .loop in

@@ -1,13 +1,12 @@
 -- `pure_nash::is_equilibrium` meets its contract: the profile stands at its offset, and it is an equilibrium where all its choices are best
 -- responses. Assumes nothing.
-use native.Mathlib.Omega.{arith}
 use native.Mathlib.Nat.{le-refl}
 use mathlib.Core.Path.{_≡_, refl, sym, ap, _∙_}
 use mathlib.Core.Bool.{Bool, true}
 use mathlib.Core.List.{List, []}
 use mathlib.Core.Option.{none}
 use Prim.Native.Nat.{ℕ}
-use lib.ListN.{length, getD, replicate}
+use lib.ListN.{getD, replicate}
 use lib.Seq.{drop-length}
 use lib.Ieee.{Float}
 use Rattle.game.specs.Finite.{product}
@@ -32,10 +31,6 @@ use Rattle.pure_nash.proofs.Laws.{whole-equilibrium}
 use borrow.Author.Needs.{needs}
 use Rattle.pure_nash.proofs.is_equilibrium.Statement.{statement}
 use Rattle.pure_nash.proofs.is_equilibrium.Tie as tie
-use Rattle.pure_nash.proofs.is_equilibrium.Reads as reads
-use Rattle.pure_nash.proofs.is_equilibrium.Lts as lts
-use Rattle.pure_nash.proofs.all_settled.Reads as all-settled-reads
-use Rattle.table.proofs.offset.Reads as offset-reads
 
 -- the arm where the offset is told
 pub record Checked (counts : List ℕ) (payoffs : List Float) (x : List ℕ) (k : ℕ) : Type 0 where
@@ -50,27 +45,21 @@ checked counts payoffs x k h =
     let both = then-none (tableRefusal counts payoffs) (profileRefusal counts x) .0 ok in
     record { none-applies = ok; table = table-law counts payoffs .0 (both .0); profile = profile-law counts x .0 (both .1); is = is }
 
--- src/lib.rt:357:11
 offset-requires : tie.Need-offset-requires
 offset-requires c κs = search needs
 
--- src/lib.rt:358:26
 enum-known-e : tie.Need-enum-known-e
 enum-known-e c = search needs
 
--- src/lib.rt:359:25
 enum-known-k : tie.Need-enum-known-k
 enum-known-k c = search needs
 
--- src/lib.rt:363:57
 slice-aggregate-all-settled : tie.Need-slice-aggregate-all-settled
 slice-aggregate-all-settled c = search needs
 
--- src/lib.rt:363:65
 slice-aggregate-all-settled-2 : tie.Need-slice-aggregate-all-settled-2
 slice-aggregate-all-settled-2 c = search needs
 
--- src/lib.rt:363:28
 all-settled-requires : tie.Need-all-settled-requires
 all-settled-requires c κs =
     let s = c .before .before .before .before .before .before .before .before .before .args in
@@ -80,7 +69,6 @@ all-settled-requires c κs =
       (refl, (known-none (s .counts .now) (s .payoffs .now) (replicate maxMarks true) 1, ((le-refl _, rw (f .is) (offset-below (f .profile))), sym (ap product (drop-length (s .counts .now)))))),
     )
 
--- src/lib.rt:354:1
 returns : tie.Need-returns
 unfolding isEquilibriumAnswer
 returns c =
@@ -88,7 +76,6 @@ returns c =
     let a = k .before .before .before .before .before .before .args in
     refused-again (tableRefusal (a .counts .now) (a .payoffs .now) then profileRefusal (a .counts .now) (a .profile .now)) _ _ _ (sym (ap toldUsize (k .e .given .1)) ∙ k .before .before .offset .ensures)
 
--- src/lib.rt:354:1
 returns-2 : tie.Need-returns-2
 unfolding isEquilibriumAnswer
 returns-2 c =

@@ -1,14 +1,14 @@
 -- `pure_nash::list` meets its contract: in both outputs those before the k-th profile are written, and the rest is as it was (`Listing`).
 -- Assumes nothing.
 use native.Mathlib.Omega.{arith}
-use mathlib.Core.Path.{_≡_, refl, sym, ap, _∙_, subst₂}
-use mathlib.Core.Bool.{Bool, true, false}
+use mathlib.Core.Path.{_≡_, sym, _∙_, subst₂}
+use mathlib.Core.Bool.{true, false}
 use mathlib.Core.List.{List, [], flatMap}
 use mathlib.Core.Logic.{⊎-elim}
-use Prim.Native.Nat.{ℕ, suc, _+_, _*_, _-_, _≤_, _<_}
+use Prim.Native.Nat.{ℕ, _+_, _-_, _≤_, _<_}
 use lib.ListN.{length, getD}
 use lib.Ieee.{Float}
-use Rattle.game.specs.Finite.{below, product}
+use Rattle.game.specs.Finite.{below}
 use Rattle.game.specs.Game.{profiles}
 use Rattle.game.proofs.Finite.{length-below}
 use Rattle.game.proofs.Game.{length-profiles}
@@ -20,9 +20,6 @@ use Rattle.pure_nash.specs.Found.{chosen}
 use Rattle.pure_nash.proofs.Write.{Listing, chosen-many, listing-none, listing-length, listing-end, listing-no, listing-room, listing-yes, flat-length}
 use Rattle.pure_nash.proofs.list.Statement.{statement}
 use Rattle.pure_nash.proofs.list.Tie as tie
-use Rattle.pure_nash.proofs.list.Reads as reads
-use Rattle.pure_nash.proofs.list.Lts as lts
-use Rattle.pure_nash.proofs.put.Reads as put-reads
 
 abbrev Inv-loop : tie.InvT-loop
 Inv-loop counts payoffs found total choices₀ utilities₀ at₀ k₀ choices utilities at k =
@@ -81,15 +78,12 @@ fits c h t =
       omega (arith, e .1, listing-room _ _ _ _ (l .utilities) (l .at) (l .k) (l .inv .2) (r .1) f k (length cs) t (payoffs-length (s .pre .0) (l .k) k)),
     )
 
--- src/lib.rt:128:5
 loop-holds : tie.Need-loop-holds Inv-loop μ-loop
 loop-holds c = (omega arith, listing-none _ _ _ _, listing-none _ _ _ _)
 
--- src/lib.rt:129:12
 shared-slice-read-if1 : tie.Need-shared-slice-read-if1 Inv-loop μ-loop
 shared-slice-read-if1 c = omega arith
 
--- src/lib.rt:130:13
 put-requires : tie.Need-put-requires Inv-loop μ-loop
 put-requires c κs =
     let s = c .before .before .before .before .before .before .before .before .before .before .before in
@@ -97,22 +91,18 @@ put-requires c κs =
     let room = fits (c .before .before .before .before .before) h (c .before .before .if1 .taken) in
     (s .pre .0, (omega arith, (omega (arith, room), omega (arith, room))))
 
--- src/lib.rt:131:13
 add-at : tie.Need-add-at Inv-loop μ-loop
 add-at c =
     let l = c .before .before .before .before .before .before .before .before .before .before in
     let t = c .before .before .before .before .before .before .before .if1 .taken in
     omega (arith, fits l (c .before .before .before .before .before .before .before .before .before .loop-test .taken) t, lengths l, l .before .before .before .before .before .before .good)
 
--- src/lib.rt:133:9
 add-k : tie.Need-add-k Inv-loop μ-loop
 add-k c = omega arith
 
--- src/lib.rt:128:5
 loop-less : tie.Need-loop-less Inv-loop μ-loop
 loop-less c = omega arith
 
--- src/lib.rt:128:5
 loop-again : tie.Need-loop-again Inv-loop μ-loop
 loop-again c =
     let s = c .before .before .before .before .before .before .before .before .before in
@@ -141,15 +131,12 @@ loop-again c =
     ))
     (c .if1 .came)
 
--- src/lib.rt:111:1
 same-length : tie.Need-same-length Inv-loop μ-loop
 same-length c = lengths (c .before) .0
 
--- src/lib.rt:111:1
 same-length-2 : tie.Need-same-length-2 Inv-loop μ-loop
 same-length-2 c = lengths (c .before) .1
 
--- src/lib.rt:111:1
 returns : tie.Need-returns Inv-loop μ-loop
 returns c =
     let s = c .before .before .before .before .before .before .before in

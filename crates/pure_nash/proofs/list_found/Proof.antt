@@ -19,10 +19,6 @@ use Rattle.pure_nash.proofs.Listing.{found-many, chosen-most, found-fit
 use borrow.Author.Needs.{needs}
 use Rattle.pure_nash.proofs.list_found.Statement.{statement}
 use Rattle.pure_nash.proofs.list_found.Tie as tie
-use Rattle.pure_nash.proofs.list_found.Reads as reads
-use Rattle.pure_nash.proofs.list_found.Lts as lts
-use Rattle.pure_nash.proofs.count_found.Reads as count-found-reads
-use Rattle.pure_nash.proofs.list.Reads as list-reads
 
 -- how many are found, and that P for each of them, and for each profile, are no more than there may be cells
 many : (c : tie.After-count-found) → let s = c .before .before .before .before .before .before .args in
@@ -35,15 +31,12 @@ many c =
     let most : c .count-found .result ≤ product cs = rw (is, ← length-profiles cs) (chosen-most (s .args .found .now) (profiles cs)) in
     (is, le-trans (mul-le-mul-right (length cs) most) (s .pre .0 .shape .room), rw (s .pre .1 .0) (s .pre .0 .shape .room))
 
--- src/lib.rt:152:9
 count-found-requires : tie.Need-count-found-requires
 count-found-requires c κs = search needs
 
--- src/lib.rt:153:24
 mul-if1 : tie.Need-mul-if1
 mul-if1 c = omega (arith, many c)
 
--- src/lib.rt:154:9
 returns : tie.Need-returns
 returns c =
     let s = c .before .before .before .before .before .before .before .args in
@@ -53,11 +46,9 @@ returns c =
     (subst (λ (m : ℕ). length (s .choices .now) < m * length (s .counts .now)) (n .0) (c .if1 .taken))) in
     (e .0, (sym (ap (λ (xs : List ℕ). over xs (s .choices .now)) (e .1)), sym (ap (λ (xs : List Float). over xs (s .utilities .now)) (e .2))))
 
--- src/lib.rt:156:26
 mul-if2 : tie.Need-mul-if2
 mul-if2 c = search needs
 
--- src/lib.rt:157:9
 returns-2 : tie.Need-returns-2
 returns-2 c =
     let s = c .before .before .before .before .before .before .before .before .args in
@@ -68,7 +59,6 @@ returns-2 c =
     (subst (λ (m : ℕ). length (s .utilities .now) < m * length (s .counts .now)) (n .0) (c .if2 .taken))) in
     (e .0, (sym (ap (λ (xs : List ℕ). over xs (s .choices .now)) (e .1)), sym (ap (λ (xs : List Float). over xs (s .utilities .now)) (e .2))))
 
--- src/lib.rt:159:5
 list-requires : tie.Need-list-requires
 list-requires c κs =
     let s = c .before .before .before .before .before .before .before .before .before .before in
@@ -84,15 +74,12 @@ list-requires c κs =
       ),
     )
 
--- src/lib.rt:138:1
 same-length : tie.Need-same-length
 same-length c = search needs
 
--- src/lib.rt:138:1
 same-length-2 : tie.Need-same-length-2
 same-length-2 c = search needs
 
--- src/lib.rt:138:1
 returns-3 : tie.Need-returns-3
 returns-3 c =
     let s = c .before .before .before .before .before .before .before .before .before .before .before .before .before .before .before .args in

@@ -17,10 +17,6 @@ use Rattle.pure_nash.proofs.Listing.{found-all, found-many}
 use borrow.Author.Needs.{needs}
 use Rattle.pure_nash.proofs.marked_count.Statement.{statement}
 use Rattle.pure_nash.proofs.marked_count.Tie as tie
-use Rattle.pure_nash.proofs.marked_count.Reads as reads
-use Rattle.pure_nash.proofs.marked_count.Lts as lts
-use Rattle.pure_nash.proofs.count_found.Reads as count-found-reads
-use Rattle.pure_nash.proofs.find.Reads as find-reads
 
 -- the count of what is found, in an array of n places
 counted : (s : tie.Start) (n : ℕ) (found : List Bool) → length found ≡ n → product (s .args .counts .now) ≤ n
@@ -34,61 +30,49 @@ counted s n found long room f =
 few : (c : tie.Then1) → let s = c .before .before .before .before in product (s .args .counts .now) ≤ fewCells
 few c = let s = c .before .before .before .before in omega (arith, few-profiles (s .pre .0), c .if1 .taken)
 
--- src/lib.rt:344:45
 slice-aggregate-find : tie.Need-slice-aggregate-find
 slice-aggregate-find c = search needs
 
--- src/lib.rt:344:57
 slice-aggregate-find-2 : tie.Need-slice-aggregate-find-2
 slice-aggregate-find-2 c = search needs
 
--- src/lib.rt:344:9
 find-requires : tie.Need-find-requires
 find-requires c κs =
     let s = c .before .before .before .before .before .before in
     (s .pre .0, (s .pre .1 .0, (s .pre .1 .1, (known-none (s .args .counts .now) (s .args .payoffs .now) (s .args .marks .now) fewCells, rw (length-replicate fewCells false) (few (c .before .before))))))
 
--- src/lib.rt:345:28
 slice-aggregate-count-found : tie.Need-slice-aggregate-count-found
 slice-aggregate-count-found c = search needs
 
--- src/lib.rt:345:9
 count-found-requires : tie.Need-count-found-requires
 count-found-requires c κs =
     let s = c .before .before .before .before .before .before .before .before .before .before in
     omega (arith, c .before .found2 .given, s .pre .1 .1, few (c .before .before .before .before .before .before))
 
--- src/lib.rt:345:9
 returns : tie.Need-returns
 returns c =
     let s = c .before .before .before .before .before .before .before .before .before .before .before in
     c .count-found .ensures ∙ counted s fewCells (c .before .before .before .before .find .last .1 .1 .1 .1 .1 .0) (c .before .before .found2 .given) (few (c .before .before .before .before .before .before .before)) (c .before .before .before .before .find .ensures)
 
--- src/lib.rt:349:41
 slice-aggregate-find-3 : tie.Need-slice-aggregate-find-3
 slice-aggregate-find-3 c = search needs
 
--- src/lib.rt:349:53
 slice-aggregate-find-4 : tie.Need-slice-aggregate-find-4
 slice-aggregate-find-4 c = search needs
 
--- src/lib.rt:349:5
 find-requires-2 : tie.Need-find-requires-2
 find-requires-2 c κs =
     let s = c .before .before .before .before .before .before in
     (s .pre .0, (s .pre .1 .0, (s .pre .1 .1, (known-none (s .args .counts .now) (s .args .payoffs .now) (s .args .marks .now) maxCells, rw (length-replicate maxCells false) (shape-room (s .pre .0 .shape))))))
 
--- src/lib.rt:350:17
 slice-aggregate-count-found-2 : tie.Need-slice-aggregate-count-found-2
 slice-aggregate-count-found-2 c = search needs
 
--- src/lib.rt:350:5
 count-found-requires-2 : tie.Need-count-found-requires-2
 count-found-requires-2 c κs =
     let s = c .before .before .before .before .before .before .before .before .before .before in
     omega (arith, c .before .found5 .given, s .pre .1 .1, shape-room (s .pre .0 .shape))
 
--- src/lib.rt:335:1
 returns-2 : tie.Need-returns-2
 returns-2 c =
     let s = c .before .before .before .before .before .before .before .before .before .before .before in

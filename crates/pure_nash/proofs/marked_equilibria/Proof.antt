@@ -2,7 +2,7 @@
 -- Assumes nothing.
 use native.Mathlib.Omega.{arith}
 use mathlib.Core.Path.{_≡_, ap, _∙_}
-use mathlib.Core.Bool.{Bool, false}
+use mathlib.Core.Bool.{false}
 use mathlib.Core.List.{List}
 use Prim.Native.Nat.{ℕ, _≤_}
 use lib.ListN.{length, length-replicate}
@@ -21,48 +21,36 @@ use Rattle.pure_nash.proofs.Listing.{found-all, found-answer, found-cho
 use borrow.Author.Needs.{needs}
 use Rattle.pure_nash.proofs.marked_equilibria.Statement.{statement}
 use Rattle.pure_nash.proofs.marked_equilibria.Tie as tie
-use Rattle.pure_nash.proofs.marked_equilibria.Reads as reads
-use Rattle.pure_nash.proofs.marked_equilibria.Lts as lts
-use Rattle.pure_nash.proofs.find.Reads as find-reads
-use Rattle.pure_nash.proofs.list_found.Reads as list-found-reads
 
 -- a small table has no more profiles than a small array places
 few : (c : tie.Then1) → let s = c .before .before .before .before .before .before in product (s .args .counts .now) ≤ fewCells
 few c = let s = c .before .before .before .before .before .before in omega (arith, few-profiles (s .pre .0), c .if1 .taken)
 
--- src/lib.rt:325:45
 slice-aggregate-find : tie.Need-slice-aggregate-find
 slice-aggregate-find c = search needs
 
--- src/lib.rt:325:57
 slice-aggregate-find-2 : tie.Need-slice-aggregate-find-2
 slice-aggregate-find-2 c = search needs
 
--- src/lib.rt:325:9
 find-requires : tie.Need-find-requires
 find-requires c κs =
     let s = c .before .before .before .before .before .before .before .before in
     (s .pre .0, (s .pre .1 .0, (s .pre .1 .1, (known-none (s .args .counts .now) (s .args .payoffs .now) (s .args .marks .now) fewCells, rw (length-replicate fewCells false) (few (c .before .before))))))
 
--- src/lib.rt:326:44
 slice-aggregate-list-found : tie.Need-slice-aggregate-list-found
 slice-aggregate-list-found c = search needs
 
--- src/lib.rt:326:9
 list-found-requires : tie.Need-list-found-requires
 list-found-requires c κs =
     let s = c .before .before .before .before .before .before .before .before .before .before .before .before .before .before in
     (s .pre .0, (s .pre .1 .1, rw (c .before .before .before .found2 .given) (omega (arith, s .pre .1 .1, few (c .before .before .before .before .before .before .before .before)))))
 
--- src/lib.rt:326:9
 same-length : tie.Need-same-length
 same-length c = search needs
 
--- src/lib.rt:326:9
 same-length-2 : tie.Need-same-length-2
 same-length-2 c = search needs
 
--- src/lib.rt:326:9
 returns : tie.Need-returns
 returns c =
     let s = c .before .before .before .before .before .before .before .before .before .before .before .before .before .before .before .before .before .before .before in
@@ -81,39 +69,31 @@ returns c =
       ),
     )
 
--- src/lib.rt:330:41
 slice-aggregate-find-3 : tie.Need-slice-aggregate-find-3
 slice-aggregate-find-3 c = search needs
 
--- src/lib.rt:330:53
 slice-aggregate-find-4 : tie.Need-slice-aggregate-find-4
 slice-aggregate-find-4 c = search needs
 
--- src/lib.rt:330:5
 find-requires-2 : tie.Need-find-requires-2
 find-requires-2 c κs =
     let s = c .before .before .before .before .before .before .before .before in
     (s .pre .0, (s .pre .1 .0, (s .pre .1 .1, (known-none (s .args .counts .now) (s .args .payoffs .now) (s .args .marks .now) maxCells, rw (length-replicate maxCells false) (shape-room (s .pre .0 .shape))))))
 
--- src/lib.rt:331:33
 slice-aggregate-list-found-2 : tie.Need-slice-aggregate-list-found-2
 slice-aggregate-list-found-2 c = search needs
 
--- src/lib.rt:331:5
 list-found-requires-2 : tie.Need-list-found-requires-2
 list-found-requires-2 c κs =
     let s = c .before .before .before .before .before .before .before .before .before .before .before .before .before .before in
     (s .pre .0, (s .pre .1 .1, rw (c .before .before .before .found5 .given) (omega (arith, s .pre .1 .1, shape-room (s .pre .0 .shape)))))
 
--- src/lib.rt:307:1
 same-length-3 : tie.Need-same-length-3
 same-length-3 c = search needs
 
--- src/lib.rt:307:1
 same-length-4 : tie.Need-same-length-4
 same-length-4 c = search needs
 
--- src/lib.rt:307:1
 returns-2 : tie.Need-returns-2
 returns-2 c =
     let s = c .before .before .before .before .before .before .before .before .before .before .before .before .before .before .before .before .before .before .before in

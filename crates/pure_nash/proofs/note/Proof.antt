@@ -1,20 +1,16 @@
 -- `pure_nash::note` meets its contract: each turn notes at most the cell of its strategy, where the comparison has said so. Assumes nothing.
 use native.Mathlib.Omega.{arith}
-use native.Mathlib.Nat.{le-refl}
 use mathlib.Core.Path.{_≡_, refl, sym, ap, _∙_, subst⁻¹}
-use mathlib.Core.Bool.{Bool, true, false, not}
+use mathlib.Core.Bool.{Bool, true, not}
 use mathlib.Core.List.{List}
-use mathlib.Core.Logic.{⊎-elim, inl, inr}
-use Prim.Native.Nat.{ℕ, suc, _+_, _*_, _-_, _≤_, _<_}
+use mathlib.Core.Logic.{⊎-elim, inl}
+use Prim.Native.Nat.{ℕ, _+_, _*_, _-_, _≤_}
 use lib.Dec.{T}
 use lib.ListN.{length, length-set}
 use Rattle.pure_nash.specs.Found.{Noted}
 use Rattle.pure_nash.proofs.Known.{noted-more}
 use Rattle.pure_nash.proofs.note.Statement.{statement}
 use Rattle.pure_nash.proofs.note.Tie as tie
-use Rattle.pure_nash.proofs.note.Reads as reads
-use Rattle.pure_nash.proofs.note.Lts as lts
-use Rattle.table.proofs.exceeds.Reads as exceeds-reads
 
 abbrev Inv-loop : tie.InvT-loop
 Inv-loop payoffs marks known₀ place start step count own t₀ known t = (t ≤ count) × (length known ≡ length known₀) × Noted payoffs marks place start step count own known₀ known
@@ -26,50 +22,40 @@ abbrev μ-loop : tie.MeasureT-loop
 abbrev noted : tie.Start Inv-loop μ-loop → List Bool → Type 0
 noted c = let s = c .args in Noted (s .payoffs .now) (s .marks .now) (s .place) (s .start) (s .step) (s .count) (s .own) (s .known .now)
 
--- src/lib.rt:52:5
 loop-holds : tie.Need-loop-holds Inv-loop μ-loop
 loop-holds c = (omega arith, refl, λ i h. inl h)
 
--- src/lib.rt:53:18
 add-if1 : tie.Need-add-if1 Inv-loop μ-loop
 add-if1 c = omega arith
 
--- src/lib.rt:53:12
 shared-slice-read-if1 : tie.Need-shared-slice-read-if1 Inv-loop μ-loop
 shared-slice-read-if1 c = omega arith
 
--- src/lib.rt:54:32
 mul-cell : tie.Need-mul-cell Inv-loop μ-loop
 mul-cell c =
     let s = c .before .before .before .before .before .before .before in
     omega (arith, s .pre .1 .1 .0 (c .before .before .before .loop .t) (c .before .before .loop-test .taken))
 
--- src/lib.rt:54:24
 add-cell : tie.Need-add-cell Inv-loop μ-loop
 add-cell c =
     let s = c .before .before .before .before .before .before .before in
     omega (arith, s .pre .1 .1 .0 (c .before .before .before .loop .t) (c .before .before .loop-test .taken))
 
--- src/lib.rt:56:21
 exceeds-requires : tie.Need-exceeds-requires Inv-loop μ-loop
 exceeds-requires c κs =
     let s = c .before .before .before .before .before .before .before .before in
     let cell = s .pre .1 .1 .0 (c .before .before .before .before .loop .t) (c .before .before .before .loop-test .taken) in
     ((omega (arith, cell, s .pre .1 .1 .1), omega (arith, cell, s .pre .1 .1 .1)), s .pre .0)
 
--- src/lib.rt:57:21
 slice-write-known : tie.Need-slice-write-known Inv-loop μ-loop
 slice-write-known c = omega arith
 
--- src/lib.rt:61:9
 add-t : tie.Need-add-t Inv-loop μ-loop
 add-t c = omega arith
 
--- src/lib.rt:52:5
 loop-less : tie.Need-loop-less Inv-loop μ-loop
 loop-less c = omega arith
 
--- src/lib.rt:52:5
 loop-again : tie.Need-loop-again Inv-loop μ-loop
 loop-again c =
     let s = c .before .before .before .before .before .before .before in
@@ -86,11 +72,9 @@ loop-again c =
     (⊎-elim (λ w. kept (w .4)) (⊎-elim (λ w. kept (w .2)) (λ w. kept (w .1))))
     (c .if1 .came)
 
--- src/lib.rt:35:1
 same-length : tie.Need-same-length Inv-loop μ-loop
 same-length c = c .before .loop .inv .1
 
--- src/lib.rt:35:1
 returns : tie.Need-returns Inv-loop μ-loop
 returns c = c .before .loop .inv .2
 

@@ -3,10 +3,10 @@
 use native.Mathlib.Omega.{arith}
 use native.Mathlib.Nat.{le-refl, div-one, add-zero, div-div-eq-div-mul}
 use mathlib.Core.Path.{_≡_, refl, sym, ap, ap₂, _∙_}
-use mathlib.Core.List.{List, [], _++_}
-use Prim.Native.Nat.{ℕ, suc, _+_, _*_, _-_, _/_, _%_, _≤_, _<_}
+use mathlib.Core.List.{List, []}
+use Prim.Native.Nat.{ℕ, _+_, _*_, _-_, _/_, _%_, _≤_, _<_}
 use lib.Arith.{digits-lt}
-use lib.ListN.{length, getD, set, drop, length-set}
+use lib.ListN.{length, getD, set, drop}
 use lib.Seq.{drop-length}
 use lib.Ieee.{Float, nan}
 use Rattle.game.specs.Finite.{product}
@@ -15,12 +15,10 @@ use Rattle.table.specs.Limits.{maxCells}
 use Rattle.table.specs.Table.{payoffAt, profilePart}
 use Rattle.table.proofs.Offsets.{nth-profile, nth-choice, offset-nth}
 use Rattle.table.proofs.Table.{part-at, part-length}
-use Rattle.table.proofs.Walk.{Down, down}
+use Rattle.table.proofs.Walk.{down}
 use Rattle.pure_nash.proofs.Write.{filled, fill-none, fill-more, fill-length}
 use Rattle.pure_nash.proofs.put.Statement.{statement}
 use Rattle.pure_nash.proofs.put.Tie as tie
-use Rattle.pure_nash.proofs.put.Reads as reads
-use Rattle.pure_nash.proofs.put.Lts as lts
 
 abbrev Inv-loop : tie.InvT-loop
 Inv-loop counts payoffs k choices₀ utilities₀ at players rest₀ p₀ choices utilities rest p =
@@ -64,7 +62,6 @@ turn c =
       few = rw (table .full) (table .shape .room);
     }
 
--- src/lib.rt:101:5
 loop-holds : tie.Need-loop-holds Inv-loop μ-loop
 loop-holds c =
     let s = c .args in
@@ -76,71 +73,54 @@ loop-holds c =
       fill-none _ (s .utilities .now) _ (s .at) (part-length r (s .payoffs .now) (table .full)),
     )
 
--- src/lib.rt:102:9
 sub-p : tie.Need-sub-p Inv-loop μ-loop
 sub-p c = omega arith
 
--- src/lib.rt:103:21
 mul-count : tie.Need-mul-count Inv-loop μ-loop
 mul-count c = omega (arith, turn c)
 
--- src/lib.rt:103:21
 shared-slice-read-count : tie.Need-shared-slice-read-count Inv-loop μ-loop
 shared-slice-read-count c = omega (arith, turn (c .before))
 
--- src/lib.rt:104:27
 rem-choices : tie.Need-rem-choices Inv-loop μ-loop
 rem-choices c = turn (c .before) .low
 
--- src/lib.rt:104:17
 add-choices : tie.Need-add-choices Inv-loop μ-loop
 add-choices c = omega (arith, turn (c .before))
 
--- src/lib.rt:104:9
 mul-choices : tie.Need-mul-choices Inv-loop μ-loop
 mul-choices c = omega (arith, turn (c .before))
 
--- src/lib.rt:104:9
 slice-write-choices : tie.Need-slice-write-choices Inv-loop μ-loop
 slice-write-choices c = omega (arith, turn (c .before), lengths (c .before .before))
 
--- src/lib.rt:105:37
 mul-utilities : tie.Need-mul-utilities Inv-loop μ-loop
 mul-utilities c = omega (arith, turn (c .before))
 
--- src/lib.rt:105:37
 add-utilities : tie.Need-add-utilities Inv-loop μ-loop
 add-utilities c = omega (arith, turn (c .before))
 
--- src/lib.rt:105:29
 mul-utilities-2 : tie.Need-mul-utilities-2 Inv-loop μ-loop
 mul-utilities-2 c = omega (arith, turn (c .before))
 
--- src/lib.rt:105:29
 shared-slice-read-utilities : tie.Need-shared-slice-read-utilities Inv-loop μ-loop
 shared-slice-read-utilities c = omega (arith, turn (c .before .before))
 
--- src/lib.rt:105:19
 add-utilities-2 : tie.Need-add-utilities-2 Inv-loop μ-loop
 add-utilities-2 c = omega (arith, turn (c .before .before))
 
--- src/lib.rt:105:9
 mul-utilities-3 : tie.Need-mul-utilities-3 Inv-loop μ-loop
 mul-utilities-3 c = omega (arith, turn (c .before .before))
 
--- src/lib.rt:105:9
 slice-write-utilities : tie.Need-slice-write-utilities Inv-loop μ-loop
 slice-write-utilities c = omega (arith, turn (c .before .before), lengths (c .before .before .before))
 
--- src/lib.rt:106:9
 div-rest : tie.Need-div-rest Inv-loop μ-loop
 div-rest c = turn (c .before .before) .low
 
--- src/lib.rt:101:5
 loop-less : tie.Need-loop-less Inv-loop μ-loop
 loop-less c = omega arith
 
--- src/lib.rt:101:5
 loop-again : tie.Need-loop-again Inv-loop μ-loop
 unfolding payoffAt
 loop-again c =
@@ -165,15 +145,12 @@ loop-again c =
           ∙ fill-more _ (s .utilities .now) _ (s .at) nan (l .p) (part-length r (s .payoffs .now) (table .full)) (c .before .before .loop-test .taken) (l .inv .0) (b .pre .1 .1 .1),
     )
 
--- src/lib.rt:84:1
 same-length : tie.Need-same-length Inv-loop μ-loop
 same-length c = lengths (c .before) .0
 
--- src/lib.rt:84:1
 same-length-2 : tie.Need-same-length-2 Inv-loop μ-loop
 same-length-2 c = lengths (c .before) .1
 
--- src/lib.rt:84:1
 returns : tie.Need-returns Inv-loop μ-loop
 returns c =
     let s = c .before .before .args in

@@ -4,19 +4,15 @@ use native.Mathlib.Omega.{arith}
 use borrow.Author.Tests.{not-true, not-false}
 use mathlib.Core.Path.{_≡_, sym, _∙_, subst, subst⁻¹}
 use mathlib.Core.Bool.{Bool, true, false}
-use Prim.Native.Nat.{ℕ, _+_, _*_, _-_, _/_, _%_, _≤_, _<_}
+use Prim.Native.Nat.{_+_, _*_, _/_, _%_}
 use lib.Dec.{T}
-use lib.ListN.{length, getD}
+use lib.ListN.{getD}
 use Rattle.game.proofs.Finite.{test-true, test-false}
 use Rattle.table.specs.Limits.{maxStrategies}
 use Rattle.pure_nash.proofs.Known.{Change, change}
 use borrow.Author.Needs.{needs}
 use Rattle.pure_nash.proofs.settle.Statement.{statement}
 use Rattle.pure_nash.proofs.settle.Tie as tie
-use Rattle.pure_nash.proofs.settle.Reads as reads
-use Rattle.pure_nash.proofs.settle.Lts as lts
-use Rattle.best_response.proofs.unexceeded.Reads as unexceeded-reads
-use Rattle.pure_nash.proofs.note.Reads as note-reads
 
 -- the mark of the player's choice
 abbrev mark : tie.Start → Bool
@@ -30,95 +26,75 @@ facts c =
     let at = c .pre .1 .1 .1 in
     change (s .counts .now) (s .payoffs .now) (s .marks .now) (s .k) (s .player) (s .stride) (c .pre .0) (at .0 .1) (at .0 .0) (at .1)
 
--- src/lib.rt:84:17
 mul-count : tie.Need-mul-count
 mul-count c = search needs
 
--- src/lib.rt:84:17
 shared-slice-read-count : tie.Need-shared-slice-read-count
 shared-slice-read-count c = search needs
 
--- src/lib.rt:85:18
 div-choice : tie.Need-div-choice
 div-choice c = facts (c .before .before .before .before .before) .wide
 
--- src/lib.rt:85:18
 rem-choice : tie.Need-rem-choice
 rem-choice c = facts (c .before .before .before .before .before) .low
 
--- src/lib.rt:86:17
 mul-place : tie.Need-mul-place
 mul-place c = search needs
 
--- src/lib.rt:87:15
 add-if1 : tie.Need-add-if1
 add-if1 c = omega (arith, c .before .before .before .before .before .pre .1 .1 .1 .0 .0, facts (c .before .before .before .before .before))
 
--- src/lib.rt:87:9
 shared-slice-read-if1 : tie.Need-shared-slice-read-if1
 shared-slice-read-if1 c = omega (arith, c .before .before .before .before .before .before .pre, facts (c .before .before .before .before .before .before))
 
--- src/lib.rt:88:9
 returns : tie.Need-returns
 returns c =
     let s = c .before .before .before .before .before .before .before in
     let off : mark s ≡ false = not-true _ (c .if1 .taken) in
     (sym (test-false _ (λ h. subst T off (facts s .tests .0 h .0))), s .pre .1 .1 .0)
 
--- src/lib.rt:90:22
 mul-start : tie.Need-mul-start
 mul-start c = omega (arith, facts (c .before .before .before .before .before .before .before))
 
--- src/lib.rt:90:18
 sub-start : tie.Need-sub-start
 sub-start c = omega (arith, facts (c .before .before .before .before .before .before .before))
 
--- src/lib.rt:90:17
 mul-start-2 : tie.Need-mul-start-2
 mul-start-2 c = omega (arith, facts (c .before .before .before .before .before .before .before))
 
--- src/lib.rt:90:17
 add-start : tie.Need-add-start
 add-start c = omega (arith, facts (c .before .before .before .before .before .before .before))
 
--- src/lib.rt:91:16
 mul-step : tie.Need-mul-step
 mul-step c = omega (arith, facts (c .before .before .before .before .before .before .before))
 
--- src/lib.rt:92:15
 mul-own : tie.Need-mul-own
 mul-own c = omega (arith, facts (c .before .before .before .before .before .before .before))
 
--- src/lib.rt:92:15
 add-own : tie.Need-add-own
 add-own c = omega (arith, facts (c .before .before .before .before .before .before .before))
 
--- src/lib.rt:93:9
 unexceeded-requires : tie.Need-unexceeded-requires
 unexceeded-requires c κs =
     let s = c .before .before .before .before .before .before .before in
     let f = facts s in
     (s .pre .0 .finites, (omega (arith, s .pre, f), (f .inside, omega (arith, f))))
 
--- src/lib.rt:94:9
 returns-2 : tie.Need-returns-2
 returns-2 c =
     let s = c .before .before .before .before .before .before .before .before .before in
     let off : c .before .unexceeded .result ≡ false = not-true _ (c .if2 .taken) in
     (sym (test-false _ (λ h. subst T (sym (c .before .unexceeded .ensures) ∙ off) (facts s .tests .0 h .1))), s .pre .1 .1 .0)
 
--- src/lib.rt:96:5
 note-requires : tie.Need-note-requires
 note-requires c κs =
     let s = c .before .before .before .before .before .before .before .before .before .before in
     let f = facts s in
     (s .pre .0 .finites, (omega (arith, s .pre, f), (f .inside, f .own)))
 
--- src/lib.rt:66:1
 same-length : tie.Need-same-length
 same-length c = search needs
 
--- src/lib.rt:66:1
 returns-3 : tie.Need-returns-3
 returns-3 c =
     let s = c .before .before .before .before .before .before .before .before .before .before .before .before .before in

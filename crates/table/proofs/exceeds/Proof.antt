@@ -5,40 +5,28 @@ use Rattle.table.proofs.Game.{cells-greater}
 use borrow.Author.Needs.{needs}
 use Rattle.table.proofs.exceeds.Statement.{statement}
 use Rattle.table.proofs.exceeds.Tie as tie
-use Rattle.table.proofs.exceeds.Reads as reads
-use Rattle.table.proofs.exceeds.Lts as lts
-use Rattle.utility.proofs.Utility.exceeds.Reads as exceeds-reads
-use Rattle.utility.proofs.Utility.of_finite.Reads as of-finite-reads
 
--- src/lib.rt:257:35
 mul-of-finite : tie.Need-mul-of-finite
 mul-of-finite c = search needs
 
--- src/lib.rt:257:35
 shared-slice-read-of-finite : tie.Need-shared-slice-read-of-finite
 shared-slice-read-of-finite c = search needs
 
--- src/lib.rt:257:9
 of-finite-requires : tie.Need-of-finite-requires
 of-finite-requires c κs = let s = c .before .before in s .pre .1 (s .args .cell) (s .pre .0 .0)
 
--- src/lib.rt:258:37
 mul-of-finite-2 : tie.Need-mul-of-finite-2
 mul-of-finite-2 c = search needs
 
--- src/lib.rt:258:37
 shared-slice-read-of-finite-2 : tie.Need-shared-slice-read-of-finite-2
 shared-slice-read-of-finite-2 c = search needs
 
--- src/lib.rt:258:18
 of-finite-requires-2 : tie.Need-of-finite-requires-2
 of-finite-requires-2 c κs = let s = c .before .before .before .before in s .pre .1 (s .args .other) (s .pre .0 .1)
 
--- src/lib.rt:258:5
 exceeds-requires : tie.Need-exceeds-requires
 exceeds-requires c κs = search needs
 
--- src/lib.rt:252:1
 returns : tie.Need-returns
 returns c =
     let s = c .before .before .before .before .before .before in

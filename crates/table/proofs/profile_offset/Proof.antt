@@ -1,7 +1,7 @@
 -- `table::profile_offset` meets its contract. The invariant: the offset of what is left, from `at` on, is that of the profile; `at` is below
 -- the product of the counts before p; and the choices before p are below their counts. Assumes nothing.
 use mathlib.Core.Path.{_≡_, refl, sym, _∙_}
-use Prim.Native.Nat.{ℕ, _+_, _*_, _-_, _<_, _≤_}
+use Prim.Native.Nat.{ℕ, _-_, _<_, _≤_}
 use native.Mathlib.Omega.{arith}
 use borrow.Author.Count.{below-more}
 use lib.ListN.{length, getD, take, drop}

@@ -1,17 +1,15 @@
 -- `table::stride` meets its contract: what is multiplied so far is the product of the counts from p on.
 use native.Mathlib.Omega.{arith}
-use native.Mathlib.Nat.{le-refl, mul-comm}
-use mathlib.Core.Path.{_≡_, refl, sym, ap, _∙_}
-use Prim.Native.Nat.{ℕ, suc, _+_, _*_, _-_, _≤_, _<_}
-use lib.ListN.{length, getD, drop}
+use native.Mathlib.Nat.{le-refl}
+use mathlib.Core.Path.{_≡_, sym, ap, _∙_}
+use Prim.Native.Nat.{ℕ, suc, _-_, _≤_, _<_}
+use lib.ListN.{length, drop}
 use lib.Seq.{drop-length}
 use Rattle.game.specs.Finite.{product}
 use Rattle.table.specs.Table.{stride}
 use Rattle.table.proofs.Walk.{Down, down}
 use Rattle.table.proofs.stride.Statement.{statement}
 use Rattle.table.proofs.stride.Tie as tie
-use Rattle.table.proofs.stride.Reads as reads
-use Rattle.table.proofs.stride.Lts as lts
 
 abbrev Inv-loop : tie.InvT-loop
 Inv-loop counts player stride₀ p₀ s p = (player < p) × (p ≤ length counts) × (s ≡ product (drop p counts))
@@ -27,39 +25,30 @@ turn c =
     let s = c .before .before .before in
     down (s .args .counts .now) (l .p) (l .stride) (s .pre .0) (omega arith) (l .inv .1) (l .inv .2)
 
--- src/lib.rt:269:5
 loop-holds : tie.Need-loop-holds Inv-loop μ-loop
 loop-holds c = (c .pre .1, le-refl _, sym (ap product (drop-length (c .args .counts .now))))
 
--- src/lib.rt:269:11
 add-loop : tie.Need-add-loop Inv-loop μ-loop
 add-loop c = omega (arith, c .before .pre .0 .few)
 
--- src/lib.rt:270:9
 sub-p : tie.Need-sub-p Inv-loop μ-loop
 sub-p c = omega arith
 
--- src/lib.rt:271:19
 mul-stride : tie.Need-mul-stride Inv-loop μ-loop
 mul-stride c = omega arith
 
--- src/lib.rt:271:19
 shared-slice-read-stride : tie.Need-shared-slice-read-stride Inv-loop μ-loop
 shared-slice-read-stride c = omega arith
 
--- src/lib.rt:271:9
 mul-stride-2 : tie.Need-mul-stride-2 Inv-loop μ-loop
 mul-stride-2 c = omega (arith, turn c)
 
--- src/lib.rt:269:5
 loop-less : tie.Need-loop-less Inv-loop μ-loop
 loop-less c = omega arith
 
--- src/lib.rt:269:5
 loop-again : tie.Need-loop-again Inv-loop μ-loop
 loop-again c = (omega arith, omega arith, turn c .next)
 
--- src/lib.rt:262:1
 returns : tie.Need-returns Inv-loop μ-loop
 unfolding stride
 returns c =
