@@ -96,7 +96,7 @@ uint32_t sigvanyor_equilibria(const size_t *counts, size_t counts_len, const dou
                               size_t *choices, size_t choices_len, double *utilities, size_t utilities_len, size_t *number);
 
 /* The player's strategies that another of its strategies strictly dominates, ascending, into `dominated`, the lowest dominator of
- * each into `dominators`, and how many they are into `number`; or 1 to 7, 8, 13. They are fewer than the player's count. */
+ * each into `dominators`, and how many they are into `number`; or 1 to 7, 8, 13. */
 uint32_t sigvanyor_strictly_dominated_strategies(const size_t *counts, size_t counts_len, const double *payoffs, size_t payoffs_len,
                                                  size_t player, size_t *dominated, size_t dominated_len,
                                                  size_t *dominators, size_t dominators_len, size_t *number);

@@ -43,6 +43,6 @@ module _ (counts : List ℕ) (payoffs : List Float) (p : ℕ) (opponents : List 
       (tableRefusal counts payoffs then playerRefusal counts p then opponentsRefusal counts p opponents then roomRefusal (length responses) a b)
       (length responses)
 
-  -- how many of them are written, for outputs of lengths a and b
+  -- those that are written, for outputs of lengths a and b
   abbrev pub responsesWritten : ℕ → ℕ → List ℕ
   responsesWritten a b = take (written (responsesAnswer a b)) responses

@@ -21,7 +21,7 @@ ghost use Rattle.best_response.specs.Answers.{against, opponentsRefusal,
 // ---- along a row: strategy t's payoff is payoffs[start + t × step], and its mark marks[place + t]
 
 // Whether no marked strategy's payoff exceeds that of the cell `own`. The caller proves that the row lies within the table and the marks,
-// and that every payoff is finite.
+// that `own` is a cell, and that every payoff is finite.
 pub fn unexceeded(
     payoffs: &[f64],
     marks: &[bool],

@@ -124,7 +124,7 @@ module _ (counts : List ℕ) (payoffs : List Float) (marks : List Bool) (p : ℕ
         subst⁻¹ (λ (n : ℕ). T (settledAt counts payoffs marks l n)) same-p (subst⁻¹ (λ (z : List ℕ). T (settled (tableGame counts payoffs) (marked marks) z p)) is best))
         (new (l * length counts + q) e)
 
--- ---- all that a turn asks, as the code has it: s is the player's stride
+-- ---- what `settle` needs of one player: s is its stride
 
 pub record Change (counts : List ℕ) (payoffs : List Float) (marks : List Bool) (k p s : ℕ) : Type 0 where
   pub low : 0 < getD counts p 0

@@ -44,7 +44,7 @@ module _ (counts : List ℕ) (payoffs : List Float) where
       same-test _ _ (Iff·trans (equilibrium-listed g (marked (replicate maxMarks true)) x r)
       (Iff·trans (rw (whole-equilibria h) (λ i. i, λ i. i)) (Iff·symm (equilibrium-listed g (whole g) x r))))
 
-  -- THE COUNT: what `count_equilibria` answers is the length of the list that `equilibria` writes.
+  -- What `count_equilibria` answers is the length of the list that `equilibria` writes.
   pub count-is-length : (n k a b : ℕ) → values n ≡ countAnswer counts payoffs → values k ≡ equilibriaAnswer counts payoffs a b
       → (n ≡ length (tableEquilibria counts payoffs)) × (k ≡ n)
   unfolding countAnswer listingAnswer
@@ -52,7 +52,7 @@ module _ (counts : List ℕ) (payoffs : List Float) where
       let e = told-values (tableRefusal counts payoffs) (length (tableEquilibria counts payoffs)) n h .1 in
       (e, told-values (tableRefusal counts payoffs then roomRefusal _ a b) (length (tableEquilibria counts payoffs)) k i .1 ∙ cc)
 
-  -- THE TEST: `is_equilibrium` answers yes exactly for the members of that list.
+  -- `is_equilibrium` answers yes exactly for the members of that list.
   pub equilibrium-is-member : (x : List ℕ) (b : Bool) → values b ≡ isEquilibriumAnswer counts payoffs x → T b ↔ (x ∈ tableEquilibria counts payoffs)
   unfolding isEquilibriumAnswer tableGame
   equilibrium-is-member x b h =
@@ -60,7 +60,7 @@ module _ (counts : List ℕ) (payoffs : List Float) where
       let r : Profile counts x = profile-law counts x .0 (then-none (tableRefusal counts payoffs) (profileRefusal counts x) .0 ok .1) in
       rw is (equilibrium-listed (tableGame counts payoffs) (whole (tableGame counts payoffs)) x r)
 
-  -- THE LIST: each profile that is an equilibrium, once, in profile order.
+  -- The list has each profile that is an equilibrium, once, in profile order.
   pub equilibria-are : Lists Earlier (λ x. Profile counts x × Equilibrium (tableGame counts payoffs) (whole (tableGame counts payoffs)) x) (tableEquilibria counts payoffs)
   unfolding tableGame
   equilibria-are = equilibria-law (tableGame counts payoffs) (whole (tableGame counts payoffs))

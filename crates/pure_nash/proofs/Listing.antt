@@ -15,9 +15,10 @@ use Rattle.game.specs.Game.{Marks, profiles}
 use Rattle.game.specs.Solution.{equilibrium, equilibria}
 use Rattle.game.proofs.Finite.{length-below}
 use Rattle.game.proofs.Game.{length-profiles}
-use Rattle.refusal.specs.Refusal.{Refusal, numberOf}
+use Rattle.refusal.specs.Refusal.{Refusal, numberOf, _then_}
 use Rattle.refusal.specs.Told.{values, refused, unless}
 use Rattle.refusal.specs.declared.NormalFormError.{NormalFormError}
+use Rattle.refusal.proofs.Told.{told-values}
 use Rattle.table.specs.Table.{profilePart, tableGame}
 use Rattle.table.specs.Marks.{marked}
 use Rattle.table.specs.Outputs.{roomRefusal, written, joined}
@@ -115,6 +116,22 @@ module _ (counts : List ℕ) (payoffs : List Float) (a b : ℕ) where
     pub same-utilities : listedUtilities counts payoffs r m a b ≡ listedUtilities counts payoffs r n a b
     unfolding listedUtilities
     same-utilities = rw (same-answer, is)
+
+  -- A listing that is not refused writes every equilibrium, whole.
+  pub listing-all : (m : Marks) (r : Refusal) (k : ℕ) → values k ≡ listingAnswer counts payoffs r m a b
+      → (k ≡ length (equilibria (tableGame counts payoffs) m))
+      × (listedChoices counts payoffs r m a b ≡ flatMap (λ x. x) (equilibria (tableGame counts payoffs) m))
+      × (listedUtilities counts payoffs r m a b ≡ flatMap (profilePart counts payoffs) (equilibria (tableGame counts payoffs) m))
+  unfolding listingAnswer listedChoices listedUtilities
+  listing-all m r k h =
+      let es : List (List ℕ) = equilibria (tableGame counts payoffs) m in
+      let part = profilePart counts payoffs in
+      let (ok, is) = told-values (r then roomRefusal (length es * length counts) a b) (length es) k h in
+      rw ok (
+        is,
+        ap (flatMap (λ x. x)) (take-length es),
+        ap (flatMap (λ x. x)) (ap (λ (n : ℕ). take n (map part es)) (sym (length-map es part)) ∙ take-length (map part es)) ∙ flat-map part es,
+      )
 
   -- Where something refuses before, it is told and nothing is written.
   pub listing-refused : (m : Marks) (r : Refusal) (e : NormalFormError) → r ≡ some e

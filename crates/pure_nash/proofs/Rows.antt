@@ -129,7 +129,7 @@ pub last-count : (counts : List ℕ) (last : ℕ) → suc last ≡ length counts
 last-count counts last end =
     sym (product-drop counts last (omega arith) ∙ ap (λ (n : ℕ). getD counts last 0 * n) (stride-last counts last end) ∙ mul-one (getD counts last 0))
 
--- ---- all that a row asks, as the code has it
+-- ---- what `find_row` needs of a row
 
 pub record Row (counts : List ℕ) (payoffs : List Float) (marks : List Bool) (k last : ℕ) : Type 0 where
   pub mine : last < length counts

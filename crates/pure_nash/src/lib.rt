@@ -29,7 +29,7 @@ ghost use Rattle.pure_nash.specs.Found.{settledAt, Known, Noted, Found, 
 // ---- the test of a profile
 
 // Notes in `known` the cell of each marked strategy of a row whose payoff that of the cell `own` does not exceed. The row is as in
-// best_response; a cell past the end of `known` is not noted.
+// best_response; a cell past the end of `known` is not noted. The contract says that what is noted is true, and no more.
 fn note(
     payoffs: &[f64],
     marks: &[bool],

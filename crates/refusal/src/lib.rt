@@ -1,5 +1,6 @@
 // The refusals of document 01, each with its number, and the answers that hold one.
-// Rust's `Result<T, NormalFormError>` is an enum for each T: `Ok` with the value, or `Err` with the refusal. So is its `Option<usize>`.
+// Rust's `Result<T, NormalFormError>` is an enum for each T: `Ok` with the value, or `Err` with the refusal.
+// `UsizeOption` is Rust's `Option<usize>`.
 ghost use mathlib.Core.Path.{_≡_};
 ghost use Rattle.refusal.specs.Refusal.{numberOf};
 

@@ -1,5 +1,5 @@
 -- How a walk up the strategies collects the dominance list, and that the list fits where it is collected. Assumes nothing.
-use mathlib.Core.Path.{_≡_, refl, sym, ap, _∙_}
+use mathlib.Core.Path.{_≡_, sym, ap, _∙_}
 use mathlib.Core.List.{List, [], _∷_, _++_, map, flatMap, append-nil, append-assoc, map-append}
 use mathlib.Core.Option.{Option, none, some}
 use Prim.Native.Nat.{ℕ, zero, suc, _+_, _≤_, _<_}
@@ -10,6 +10,7 @@ use lib.Ieee.{Float}
 use Rattle.game.specs.Finite.{below}
 use Rattle.game.specs.Game.{Game, Marks, whole}
 use Rattle.game.specs.Solution.{dominator}
+use Rattle.game.proofs.Finite.{below-last}
 use Rattle.table.specs.Limits.{maxStrategies}
 use Rattle.table.specs.Table.{tableGame}
 use Rattle.table.specs.Meaning.{Shape}
@@ -18,10 +19,6 @@ use Rattle.strict_dominance.specs.Answers.{DominatedStrategy, beside, do
 use Rattle.table.proofs.Outputs.{over-length, over-more}
 
 -- ---- one strategy after the other
-
-below-more : (n : ℕ) → below (suc n) ≡ below n ++ (n ∷ [])
-below-more zero = refl
-below-more (suc n) = ap {B = List ℕ} (λ l. 0 ∷ map suc l) (below-more n) ∙ ap {B = List ℕ} (λ l. 0 ∷ l) (map-append suc (below n) (n ∷ []))
 
 flatMap-more : {A B : Type 0} (f : A → List B) (xs : List A) (x : A) → flatMap f (xs ++ (x ∷ [])) ≡ flatMap f xs ++ f x
 unfolding flatMap
@@ -35,7 +32,7 @@ module _ (g : Game) (m : Marks) (p : ℕ) where
 
   pub dominated-more : (n : ℕ) → dominatedBelow (suc n) ≡ dominatedBelow n ++ beside n (dominator g m p n)
   dominated-more n =
-      let f : ℕ → List DominatedStrategy = λ s. beside s (dominator g m p s) in ap (flatMap f) (below-more n) ∙ flatMap-more f (below n) n
+      let f : ℕ → List DominatedStrategy = λ s. beside s (dominator g m p s) in ap (flatMap f) (below-last n) ∙ flatMap-more f (below n) n
 
   -- no more than there are strategies
   pub dominated-few : (n : ℕ) → length (dominatedBelow n) ≤ n

@@ -23,7 +23,7 @@ abbrev pub beside : ℕ → Option ℕ → List DominatedStrategy
 beside s none = []
 beside s (some t) = record { strategy = s; dominatedBy = t } ∷ []
 
--- each dominated strategy of player p, ascending, with its lowest dominator
+-- the dominance list, document 01's term: each dominated strategy of player p, ascending, with its lowest dominator
 unfoldable pub dominatedOf : Game → Marks → ℕ → List DominatedStrategy
 dominatedOf g m p = flatMap (λ s. beside s (dominator g m p s)) (below (count g p))
 

@@ -47,7 +47,7 @@ fn others_marked(counts: &[usize], marks: &[bool], player: usize, offset: usize)
 // The lowest marked strategy of the player that strictly dominates `strategy` against the marked choices of the others, or none. Where
 // `whole` is true, no mark of the others is read. The caller proves that the table has none of refusals 1 to 7, that there are as many
 // marks as there may be and `profiles` is the number of profiles, that the player and the strategy are the table's, and, where `whole` is
-// true, that every strategy is marked.
+// true, that every place is marked.
 pub fn lowest_dominator(
     counts: &[usize],
     payoffs: &[f64],

@@ -1,13 +1,16 @@
 -- Writing a list into an output one element after the other, and whether two outputs have room. Assumes nothing.
-use mathlib.Core.Path.{_≡_, sym, ap, _∙_}
+use mathlib.Core.Path.{_≡_, sym, ap, ap₂, _∙_}
+use mathlib.Core.Bool.{Bool}
 use mathlib.Core.List.{List, [], _∷_, _++_}
 use mathlib.Core.Option.{none, some}
 use Prim.Native.Nat.{ℕ, suc, _+_, _≤_, _<_}
 use native.Mathlib.Numerals.{add-one}
 use native.Mathlib.Omega.{arith}
 use borrow.Author.Tests.{lt-ltb, le-ltb}
+use lib.Dec.{ltb}
 use lib.ListN.{length, getD, set, take, drop, length-append, length-drop}
 use lib.Seq.{drop-cons, set-append-seam, append-snoc, take-suc, length-take-le}
+use Rattle.refusal.specs.Refusal.{when, _then_}
 use Rattle.refusal.specs.declared.NormalFormError.the-variants.{OutputTooShort}
 use Rattle.table.specs.Outputs.{roomRefusal, over}
 
@@ -36,12 +39,12 @@ module _ (n a b : ℕ) where
   -- the first output is too short, the second is, and both hold n elements
   pub first-short : a < n → roomRefusal n a b ≡ some OutputTooShort
   unfolding roomRefusal
-  first-short h = rw (lt-ltb a n h)
+  first-short h = ap (λ (t : Bool). when t OutputTooShort then when (ltb b n) OutputTooShort) (lt-ltb a n h)
 
   pub second-short : n ≤ a → b < n → roomRefusal n a b ≡ some OutputTooShort
   unfolding roomRefusal
-  second-short h k = rw (le-ltb a n h, lt-ltb b n k)
+  second-short h k = ap₂ (λ (s t : Bool). when s OutputTooShort then when t OutputTooShort) (le-ltb a n h) (lt-ltb b n k)
 
   pub room-fits : n ≤ a → n ≤ b → roomRefusal n a b ≡ none
   unfolding roomRefusal
-  room-fits h k = rw (le-ltb a n h, le-ltb b n k)
+  room-fits h k = ap₂ (λ (s t : Bool). when s OutputTooShort then when t OutputTooShort) (le-ltb a n h) (le-ltb b n k)

@@ -1,11 +1,12 @@
 -- What a walk over a table cites: the strides of the players from the last one down, the row of a player's cells against given choices of
 -- the others, the place of a mark, and that marks on every place are the whole game's. Assumes nothing.
 use mathlib.Core.Path.{_≡_, refl, sym, ap, _∙_}
-use mathlib.Core.Bool.{Bool, true, false}
+use mathlib.Core.Bool.{Bool, true, false, _&&_}
 use mathlib.Core.List.{List, []}
 use Prim.Native.Nat.{ℕ, suc, _+_, _*_, _-_, _/_, _%_, _≤_, _<_}
 use native.Mathlib.Nat.{mul-comm, mul-assoc, add-mul, zero-mul, le-mul-of-pos-right, mul-le-mul-right, le-trans}
 use native.Mathlib.Omega.{arith}
+use borrow.Author.Tests.{le-ltb}
 use lib.Arith.{digits-lt}
 use lib.Dec.{ltb, lt→ltb}
 use lib.ListN.{length, getD, set, take, drop, replicate, getD-replicate}
@@ -103,7 +104,13 @@ row-start cs k p h l some = omega (arith, walk-base cs k p h l 0 some, zero-mul 
 -- A strategy below the limit has its mark at its place.
 pub mark-at : (marks : List Bool) (p s : ℕ) → s < maxStrategies → marked marks p s ≡ getD marks (p * maxStrategies + s) false
 unfolding marked
-mark-at marks p s h = rw (test-true (ltb s maxStrategies) (lt→ltb s maxStrategies h)) refl
+mark-at marks p s h =
+    ap (λ (t : Bool). t && getD marks (p * maxStrategies + s) false) (test-true (ltb s maxStrategies) (lt→ltb s maxStrategies h))
+
+-- One past the player's places has none.
+pub mark-past : (marks : List Bool) (p s : ℕ) → maxStrategies ≤ s → marked marks p s ≡ false
+unfolding marked
+mark-past marks p s h = ap (λ (t : Bool). t && getD marks (p * maxStrategies + s) false) (le-ltb s maxStrategies h)
 
 -- The places of the players are within the list of marks.
 pub mark-inside : (p s : ℕ) → p < maxPlayers → s < maxStrategies → p * maxStrategies + s < maxMarks

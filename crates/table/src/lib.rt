@@ -258,7 +258,8 @@ pub fn exceeds(payoffs: &[f64], cell: usize, other: usize) -> bool
     mine.exceeds(Utility::of_finite(payoffs[other]))
 }
 
-// How far the offset moves when the player's choice goes up by one. The caller proves that the counts have none of refusals 1 to 5.
+// How far the offset moves when the player's choice goes up by one. The caller proves that the counts have none of
+// refusals 1 to 5, and that the player is below P.
 pub fn stride(counts: &[usize], player: usize) -> usize
     requires { ⌜ Shape (now counts) ⌝ }
     requires { ⌜ player < length (now counts) ⌝ }

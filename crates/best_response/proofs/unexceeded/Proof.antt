@@ -45,7 +45,9 @@ add-exceeds : tie.Need-add-exceeds Inv-loop μ-loop
 add-exceeds c = omega (arith, cell c)
 
 exceeds-requires : tie.Need-exceeds-requires Inv-loop μ-loop
-exceeds-requires c κs = let s = c .before .before .before .before .before .before in ((cell c, s .pre .1 .1 .1), s .pre .0)
+exceeds-requires c κs =
+    let s = c .before .before .before .before .before .before in
+    ((omega (arith, cell c, s .pre .1 .1 .1), omega (arith, cell c, s .pre .1 .1 .1)), s .pre .0)
 
 returns : tie.Need-returns Inv-loop μ-loop
 returns c =

@@ -70,10 +70,14 @@ slice-write-strategies : tie.Need-slice-write-strategies Inv-loop μ-loop
 slice-write-strategies c = room c .0
 
 mul-utilities : tie.Need-mul-utilities Inv-loop μ-loop
-mul-utilities c = omega (arith, cell (c .before .before))
+mul-utilities c =
+    let s = c .before .before .before .before .before .before .before .before .before .before in
+    omega (arith, cell (c .before .before), s .pre .1 .1 .1 .0)
 
 shared-slice-read-utilities : tie.Need-shared-slice-read-utilities Inv-loop μ-loop
-shared-slice-read-utilities c = cell (c .before .before .before)
+shared-slice-read-utilities c =
+    let s = c .before .before .before .before .before .before .before .before .before .before .before in
+    omega (arith, cell (c .before .before .before), s .pre .1 .1 .1 .0)
 
 mul-utilities-2 : tie.Need-mul-utilities-2 Inv-loop μ-loop
 mul-utilities-2 c = omega (arith, room (c .before), kept (c .before .before .before .before .before .before))

@@ -13,7 +13,7 @@ shared-slice-read-of-finite : tie.Need-shared-slice-read-of-finite
 shared-slice-read-of-finite c = search needs
 
 of-finite-requires : tie.Need-of-finite-requires
-of-finite-requires c κs = let s = c .before .before in s .pre .1 (s .args .cell) (s .pre .0 .0)
+of-finite-requires c κs = let s = c .before .before in search (s .pre .1, s .pre .0)
 
 mul-of-finite-2 : tie.Need-mul-of-finite-2
 mul-of-finite-2 c = search needs
@@ -22,7 +22,7 @@ shared-slice-read-of-finite-2 : tie.Need-shared-slice-read-of-finite-2
 shared-slice-read-of-finite-2 c = search needs
 
 of-finite-requires-2 : tie.Need-of-finite-requires-2
-of-finite-requires-2 c κs = let s = c .before .before .before .before in s .pre .1 (s .args .other) (s .pre .0 .1)
+of-finite-requires-2 c κs = let s = c .before .before .before .before in search (s .pre .1, s .pre .0)
 
 exceeds-requires : tie.Need-exceeds-requires
 exceeds-requires c κs = search needs
