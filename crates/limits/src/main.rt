@@ -1,8 +1,15 @@
 // The cases at the limits of document 01, one line each: a short name, and what the call told, which is `ok` with its values or
 // `refused` with the refusal's number. The sizes come from the limits of `table`; counts 8 8 16 16 and 8 8 16 17 are document 01's.
+use cases::first;
+use cases::number;
+use cases::numbers;
+use cases::refused;
+use cases::text;
+use cases::told_usize;
+use cases::whole;
+use cases::wholes;
 use libc::STDOUT_FILENO;
 use refusal::UnitResult;
-use refusal::UsizeResult;
 use table::MAX_CELLS;
 use table::MAX_PLAYERS;
 use table::MAX_STRATEGIES;
@@ -22,46 +29,6 @@ const LARGEST: f64 = 1.7976931348623157e308;
 
 const LEAST: f64 = 5e-324;
 
-fn text(bytes: &[u8]) {
-    io::write_all(STDOUT_FILENO, bytes);
-}
-
-fn number(n: usize) {
-    text(b" ");
-    io::print_decimal(STDOUT_FILENO, n as u64);
-}
-
-fn numbers(list: &[usize]) {
-    let mut i = 0;
-    while i < list.len() {
-        number(list[i]);
-        i += 1;
-    }
-}
-
-// A payoff that is a whole number from 0 on.
-fn whole(x: f64) {
-    if x > -1.0 {
-        if x < 18446744073709551616.0 {
-            let n = std::num::truncating_f64_to_u64(x);
-            if std::num::nearest_u64_to_f64(n) == x {
-                text(b" ");
-                io::print_decimal(STDOUT_FILENO, n);
-                return;
-            }
-        }
-    }
-    text(b" not a whole number from 0");
-}
-
-fn wholes(list: &[f64]) {
-    let mut i = 0;
-    while i < list.len() {
-        whole(list[i]);
-        i += 1;
-    }
-}
-
 // A float's bits, in hexadecimal. A NaN has none here.
 fn bits(x: f64) {
     text(b" ");
@@ -72,25 +39,10 @@ fn bits(x: f64) {
     }
 }
 
-fn refused(number: u32) {
-    text(b" refused ");
-    io::print_decimal(STDOUT_FILENO, number as u64);
-}
-
 fn told_unit(r: UnitResult) {
     match r {
         UnitResult::Ok => text(b" ok"),
         UnitResult::Err(e) => refused(e.number()),
-    }
-}
-
-fn told_usize(r: UsizeResult) {
-    match r {
-        UsizeResult::Ok(n) => {
-            text(b" ok");
-            number(n);
-        }
-        UsizeResult::Err(e) => refused(e.number()),
     }
 }
 
@@ -124,15 +76,6 @@ fn of_counts(name: &[u8], counts: &[usize]) {
     text(b"; space");
     told_space(StrategySpace::from_counts(counts));
     text(b"\n");
-}
-
-// The first n of the values, or all of them where there are fewer.
-fn first(values: &[f64], n: usize) -> &[f64] {
-    if n < values.len() {
-        &values[..n]
-    } else {
-        values
-    }
 }
 
 // A table of the first n payoffs: the number of profiles, and the space.

@@ -1,27 +1,47 @@
 // Replays answers that the Rust original gave. Standard input has a case to a line, as unsigned decimal numbers with one space between
-// them, each f64 by its 64 bits: `1 BITS STATUS` is Utility::new; `2 N count*N STATUS` StrategySpace::from_counts;
-// `3 N count*N M BITS*M STATUS` PayoffMatrix::new; `4 N count*N M BITS*M K choice*K PLAYER STATUS BITS` PayoffMatrix::payoff, with BITS 0
-// where it refuses. STATUS is 0 or the refusal's number. A line that cannot be read counts as one that differs.
-// The file `stdin` was recorded by `compare/run --record crates/replay/stdin`, which runs the original unchanged.
+// them, each f64 by its 64 bits. The lines and their calls, where TABLE is `N count*N M BITS*M` and OUTPUTS is `A element*A B element*B`:
+//     1 BITS STATUS                                         Utility::new
+//     2 N count*N STATUS                                    StrategySpace::from_counts
+//     3 TABLE STATUS                                        PayoffMatrix::new
+//     4 TABLE K choice*K PLAYER STATUS BITS                 PayoffMatrix::payoff
+//     5 TABLE K choice*K PLAYER STATUS NUMBER OUTPUTS       BestResponseSolver::best_responses, the K choices the opponents'
+//     6 TABLE K choice*K STATUS ANSWER                      is_equilibrium, 1 for yes
+//     7 TABLE STATUS NUMBER                                 count_equilibria
+//     8 TABLE STATUS NUMBER OUTPUTS                         PureNashSolver::equilibria
+//     9 TABLE PLAYER STATUS NUMBER OUTPUTS                  StrictDominanceSolver::strictly_dominated_strategies
+// STATUS is 0 or the refusal's number, and what follows it is 0 where the call refuses. OUTPUTS are both outputs after the call, as long as
+// they were lent; element i of each was 7 + i before it, a float's bits likewise. A line that cannot be read counts as one that differs.
+// The file `stdin` was recorded by `compare/run --record crates/replay/stdin`, which runs the original unchanged; in 5 to 9 document 01
+// judges where the original does not.
 ghost use Prim.Native.Nat.{_≤_};
 ghost use lib.ListN.{length};
 use libc::STDIN_FILENO;
 use libc::STDOUT_FILENO;
+use refusal::BoolResult;
 use refusal::UnitResult;
+use refusal::UsizeResult;
 use table::MAX_PLAYERS;
 use table::SpaceResult;
 use table::StrategySpace;
 use utility::Utility;
 use utility::UtilityResult;
 
-// The most counts, payoffs and choices of a line, and the most differing lines that are printed.
+// The most counts, payoffs, choices and elements of an output of a line, and the most differing lines that are printed.
 const COUNTS: usize = 9;
 
 const PAYOFFS: usize = 64;
 
 const CHOICES: usize = 10;
 
+const OUTPUT: usize = 64;
+
 const PRINTED: u64 = 10;
+
+// The calls have the numbers below this one, from 1 on.
+const CALLS: usize = 10;
+
+// What stands in an output's first element before the call.
+const FILLING: usize = 7;
 
 // A place in a line.
 struct Cursor {
@@ -40,32 +60,47 @@ enum Pushed {
     Over,
 }
 
-// What a call told beside what was recorded. A value is a payoff's bits, or 0 where there is none. `space` says whether the space is
-// the one due, and is true of a call that tells none.
+// What a call tells: its status, and a number, a payoff's bits, or 0 where there is none.
+struct Told {
+    status: u64,
+    value: u64,
+}
+
+// What was recorded at a line's end.
+enum Ending {
+    Told(Told),
+    Bad,
+}
+
+// The same with both outputs and their lengths, where it could be read.
+struct Listing {
+    readable: bool,
+    recorded: Told,
+    first: [usize; OUTPUT],
+    first_length: usize,
+    second: [usize; OUTPUT],
+    second_length: usize,
+}
+
+// What the call of a number told beside what was recorded. `rest` says whether the space or the outputs are those due, and is true of a
+// call that has none.
 struct Case {
-    told: u64,
-    told_value: u64,
-    recorded: u64,
-    recorded_value: u64,
-    space: bool,
+    call: usize,
+    told: Told,
+    recorded: Told,
+    rest: bool,
 }
 
 // What a line holds.
 enum Line {
-    New(Case),
-    FromCounts(Case),
-    Matrix(Case),
-    Payoff(Case),
+    Ran(Case),
     Unreadable,
 }
 
-// How many lines were read and how many cases of each call were run, and how many of them differ.
+// How many lines were read and how many cases were run, of each call and in all, and how many of them differ.
 struct Tally {
     lines: u64,
-    news: u64,
-    spaces: u64,
-    matrices: u64,
-    payoffs: u64,
+    calls: [u64; CALLS],
     cases: u64,
     differ: u64,
 }
@@ -196,12 +231,20 @@ fn floats(bits: [usize; PAYOFFS]) -> [f64; PAYOFFS] {
 // The first n of a list, or all of it where it is shorter.
 fn first(list: &[usize], n: u64) -> &[usize] {
     let end = n as usize;
-    if end < list.len() { &list[..end] } else { list }
+    if end < list.len() {
+        &list[0..end]
+    } else {
+        list
+    }
 }
 
 fn first_floats(list: &[f64], n: u64) -> &[f64] {
     let end = n as usize;
-    if end < list.len() { &list[..end] } else { list }
+    if end < list.len() {
+        &list[0..end]
+    } else {
+        list
+    }
 }
 
 fn at_or_zero(counts: &[usize], p: usize) -> usize {
@@ -224,15 +267,74 @@ fn is_space(space: StrategySpace, counts: &[usize]) -> bool {
     true
 }
 
-fn status(r: UnitResult) -> u64 {
+// ---- what a call tells
+
+fn told_unit(r: UnitResult) -> Told {
     match r {
-        UnitResult::Ok => 0,
-        UnitResult::Err(e) => e.number() as u64,
+        UnitResult::Ok => Told {
+            status: 0,
+            value: 0,
+        },
+        UnitResult::Err(e) => Told {
+            status: e.number() as u64,
+            value: 0,
+        },
     }
 }
 
+fn told_bool(r: BoolResult) -> Told {
+    match r {
+        BoolResult::Ok(yes) => Told {
+            status: 0,
+            value: if yes { 1 } else { 0 },
+        },
+        BoolResult::Err(e) => Told {
+            status: e.number() as u64,
+            value: 0,
+        },
+    }
+}
+
+fn told_number(r: UsizeResult) -> Told {
+    match r {
+        UsizeResult::Ok(n) => Told {
+            status: 0,
+            value: n as u64,
+        },
+        UsizeResult::Err(e) => Told {
+            status: e.number() as u64,
+            value: 0,
+        },
+    }
+}
+
+fn told_utility(r: UtilityResult) -> Told {
+    match r {
+        UtilityResult::Ok(u) => Told {
+            status: 0,
+            value: bits_of(u.value()),
+        },
+        UtilityResult::Err(e) => Told {
+            status: e.number() as u64,
+            value: 0,
+        },
+    }
+}
+
+// ---- the lines without a table
+
+// A case of a call that hands back nothing but what it tells.
+fn plain(call: usize, told: Told, recorded: Told) -> Line {
+    Line::Ran(Case {
+        call,
+        told,
+        recorded,
+        rest: true,
+    })
+}
+
 // The space due is that of the counts, or of no counts where a refusal was recorded.
-fn space_case(r: SpaceResult, counts: &[usize], recorded: u64) -> Case {
+fn of_space(call: usize, r: SpaceResult, counts: &[usize], recorded: u64) -> Line {
     let answer = r.answer;
     let space = r.space;
     let due = if recorded == 0 {
@@ -240,46 +342,33 @@ fn space_case(r: SpaceResult, counts: &[usize], recorded: u64) -> Case {
     } else {
         is_space(space, &[])
     };
-    Case {
-        told: status(answer),
-        told_value: 0,
-        recorded,
-        recorded_value: 0,
-        space: due,
-    }
-}
-
-fn utility_case(r: UtilityResult, recorded: u64, recorded_value: u64) -> Case {
-    match r {
-        UtilityResult::Ok(u) => Case {
-            told: 0,
-            told_value: bits_of(u.value()),
-            recorded,
-            recorded_value,
-            space: true,
+    Line::Ran(Case {
+        call,
+        told: told_unit(answer),
+        recorded: Told {
+            status: recorded,
+            value: 0,
         },
-        UtilityResult::Err(e) => Case {
-            told: e.number() as u64,
-            told_value: 0,
-            recorded,
-            recorded_value,
-            space: true,
-        },
-    }
+        rest: due,
+    })
 }
 
 fn new_line(s: &[u8], c: Cursor) -> Line {
     let Read::Number(bits, c) = next(s, c) else {
         return Line::Unreadable;
     };
-    let Read::Number(recorded, c) = next(s, c) else {
+    let Read::Number(status, c) = next(s, c) else {
         return Line::Unreadable;
     };
     if !ends(s, c) {
         return Line::Unreadable;
     }
-    let value = if recorded == 0 { bits } else { 0 };
-    Line::New(utility_case(Utility::new(float(bits)), recorded, value))
+    let value = if status == 0 { bits } else { 0 };
+    plain(
+        1,
+        told_utility(Utility::new(float(bits))),
+        Told { status, value },
+    )
 }
 
 fn from_counts_line(s: &[u8], c: Cursor) -> Line {
@@ -294,72 +383,280 @@ fn from_counts_line(s: &[u8], c: Cursor) -> Line {
         return Line::Unreadable;
     }
     let given = first(&counts, n);
-    Line::FromCounts(space_case(StrategySpace::from_counts(given), given, recorded))
+    of_space(2, StrategySpace::from_counts(given), given, recorded)
 }
 
-fn matrix_line(s: &[u8], c: Cursor) -> Line {
-    let mut counts = [0; COUNTS];
-    let mut bits = [0; PAYOFFS];
-    let Read::Number(n, c) = list(s, c, &mut counts) else {
-        return Line::Unreadable;
+// ---- the lines with a table
+
+// A status and a value, up to the line's end.
+fn end(s: &[u8], c: Cursor) -> Ending {
+    let Read::Number(status, c) = next(s, c) else {
+        return Ending::Bad;
     };
-    let Read::Number(m, c) = list(s, c, &mut bits) else {
-        return Line::Unreadable;
+    let Read::Number(value, c) = next(s, c) else {
+        return Ending::Bad;
     };
+    if !ends(s, c) {
+        return Ending::Bad;
+    }
+    Ending::Told(Told { status, value })
+}
+
+fn matrix_line(s: &[u8], c: Cursor, counts: &[usize], payoffs: &[f64]) -> Line {
     let Read::Number(recorded, c) = next(s, c) else {
         return Line::Unreadable;
     };
     if !ends(s, c) {
         return Line::Unreadable;
     }
-    let payoffs = floats(bits);
-    let given = first(&counts, n);
-    Line::Matrix(space_case(
-        table::payoff_matrix(given, first_floats(&payoffs, m)),
-        given,
-        recorded,
-    ))
+    of_space(3, table::payoff_matrix(counts, payoffs), counts, recorded)
 }
 
-// The rest of a payoff's line, after its lists.
-fn payoff_case(s: &[u8], c: Cursor, counts: &[usize], payoffs: &[f64], choices: &[usize]) -> Line {
+fn payoff_line(s: &[u8], c: Cursor, counts: &[usize], payoffs: &[f64], profile: &[usize]) -> Line {
     let Read::Number(player, c) = next(s, c) else {
         return Line::Unreadable;
     };
-    let Read::Number(recorded, c) = next(s, c) else {
+    let Ending::Told(recorded) = end(s, c) else {
         return Line::Unreadable;
     };
-    let Read::Number(value, c) = next(s, c) else {
-        return Line::Unreadable;
-    };
-    if !ends(s, c) {
-        return Line::Unreadable;
-    }
-    let told = table::payoff(counts, payoffs, choices, player as usize);
-    Line::Payoff(utility_case(told, recorded, value))
+    let told = table::payoff(counts, payoffs, profile, player as usize);
+    plain(4, told_utility(told), recorded)
 }
 
-fn payoff_line(s: &[u8], c: Cursor) -> Line {
+fn is_equilibrium_line(
+    s: &[u8],
+    c: Cursor,
+    counts: &[usize],
+    payoffs: &[f64],
+    profile: &[usize],
+) -> Line {
+    let Ending::Told(recorded) = end(s, c) else {
+        return Line::Unreadable;
+    };
+    let told = pure_nash::is_equilibrium(counts, payoffs, profile);
+    plain(6, told_bool(told), recorded)
+}
+
+fn count_line(s: &[u8], c: Cursor, counts: &[usize], payoffs: &[f64]) -> Line {
+    let Ending::Told(recorded) = end(s, c) else {
+        return Line::Unreadable;
+    };
+    plain(
+        7,
+        told_number(pure_nash::count_equilibria(counts, payoffs)),
+        recorded,
+    )
+}
+
+// ---- the lines with outputs
+
+// An output before the call.
+fn filled() -> [usize; OUTPUT] {
+    let mut list = [0; OUTPUT];
+    let mut i = 0;
+    while i < OUTPUT {
+        list[i] = FILLING + i;
+        i += 1;
+    }
+    list
+}
+
+// The bits of a list of f64s.
+fn bits_list(values: [f64; OUTPUT]) -> [usize; OUTPUT] {
+    let mut bits = [0; OUTPUT];
+    let mut i = 0;
+    while i < OUTPUT {
+        bits[i] = bits_of(values[i]) as usize;
+        i += 1;
+    }
+    bits
+}
+
+// Whether both have n elements, and the first n are the same.
+fn same_first(a: &[usize], b: &[usize], n: usize) -> bool {
+    let mut i = 0;
+    while i < n {
+        if a.len() <= i {
+            return false;
+        }
+        if b.len() <= i {
+            return false;
+        }
+        if a[i] != b[i] {
+            return false;
+        }
+        i += 1;
+    }
+    true
+}
+
+// A length, or the most elements of an output where that is less.
+fn room(n: usize) -> usize
+    ensures { λ r. ⌜ r ≤ 64 ⌝ }
+{
+    if n < OUTPUT { n } else { OUTPUT }
+}
+
+fn no_outputs() -> Listing {
+    Listing {
+        readable: false,
+        recorded: Told {
+            status: 0,
+            value: 0,
+        },
+        first: [0; OUTPUT],
+        first_length: 0,
+        second: [0; OUTPUT],
+        second_length: 0,
+    }
+}
+
+// A status, a value and two lists, up to the line's end.
+fn outputs(s: &[u8], c: Cursor) -> Listing {
+    let mut first = [0; OUTPUT];
+    let mut second = [0; OUTPUT];
+    let Read::Number(status, c) = next(s, c) else {
+        return no_outputs();
+    };
+    let Read::Number(value, c) = next(s, c) else {
+        return no_outputs();
+    };
+    let Read::Number(a, c) = list(s, c, &mut first) else {
+        return no_outputs();
+    };
+    let Read::Number(b, c) = list(s, c, &mut second) else {
+        return no_outputs();
+    };
+    Listing {
+        readable: ends(s, c),
+        recorded: Told { status, value },
+        first,
+        first_length: a as usize,
+        second,
+        second_length: b as usize,
+    }
+}
+
+// A case of a call with outputs, which hold these elements after it.
+fn of_outputs(
+    call: usize,
+    r: UsizeResult,
+    first: [usize; OUTPUT],
+    second: [usize; OUTPUT],
+    o: Listing,
+) -> Line {
+    let recorded = o.recorded;
+    let due = o.first;
+    let second_due = o.second;
+    let same = same_first(&first, &due, o.first_length);
+    Line::Ran(Case {
+        call,
+        told: told_number(r),
+        recorded,
+        rest: same & same_first(&second, &second_due, o.second_length),
+    })
+}
+
+fn responses_line(
+    s: &[u8],
+    c: Cursor,
+    counts: &[usize],
+    payoffs: &[f64],
+    opponents: &[usize],
+) -> Line {
+    let Read::Number(player, c) = next(s, c) else {
+        return Line::Unreadable;
+    };
+    let o = outputs(s, c);
+    if !o.readable {
+        return Line::Unreadable;
+    }
+    let a = room(o.first_length);
+    let b = room(o.second_length);
+    let mut strategies = filled();
+    let mut utilities = floats(filled());
+    let told = best_response::best_responses(
+        counts,
+        payoffs,
+        player as usize,
+        opponents,
+        &mut strategies[0..a],
+        &mut utilities[0..b],
+    );
+    of_outputs(5, told, strategies, bits_list(utilities), o)
+}
+
+fn equilibria_line(s: &[u8], c: Cursor, counts: &[usize], payoffs: &[f64]) -> Line {
+    let o = outputs(s, c);
+    if !o.readable {
+        return Line::Unreadable;
+    }
+    let a = room(o.first_length);
+    let b = room(o.second_length);
+    let mut choices = filled();
+    let mut utilities = floats(filled());
+    let told = pure_nash::equilibria(counts, payoffs, &mut choices[0..a], &mut utilities[0..b]);
+    of_outputs(8, told, choices, bits_list(utilities), o)
+}
+
+fn dominated_line(s: &[u8], c: Cursor, counts: &[usize], payoffs: &[f64]) -> Line {
+    let Read::Number(player, c) = next(s, c) else {
+        return Line::Unreadable;
+    };
+    let o = outputs(s, c);
+    if !o.readable {
+        return Line::Unreadable;
+    }
+    let a = room(o.first_length);
+    let b = room(o.second_length);
+    let mut dominated = filled();
+    let mut dominators = filled();
+    let told = strict_dominance::strictly_dominated_strategies(
+        counts,
+        payoffs,
+        player as usize,
+        &mut dominated[0..a],
+        &mut dominators[0..b],
+    );
+    of_outputs(9, told, dominated, dominators, o)
+}
+
+// ---- every line
+
+// A line with choices after its table.
+fn choices_line(call: u64, s: &[u8], c: Cursor, counts: &[usize], payoffs: &[f64]) -> Line {
+    let mut choices = [0; CHOICES];
+    let Read::Number(k, c) = list(s, c, &mut choices) else {
+        return Line::Unreadable;
+    };
+    let given = first(&choices, k);
+    match call {
+        4 => payoff_line(s, c, counts, payoffs, given),
+        5 => responses_line(s, c, counts, payoffs, given),
+        6 => is_equilibrium_line(s, c, counts, payoffs, given),
+        _ => Line::Unreadable,
+    }
+}
+
+fn table_line(call: u64, s: &[u8], c: Cursor) -> Line {
     let mut counts = [0; COUNTS];
     let mut bits = [0; PAYOFFS];
-    let mut choices = [0; CHOICES];
     let Read::Number(n, c) = list(s, c, &mut counts) else {
         return Line::Unreadable;
     };
     let Read::Number(m, c) = list(s, c, &mut bits) else {
         return Line::Unreadable;
     };
-    let Read::Number(k, c) = list(s, c, &mut choices) else {
-        return Line::Unreadable;
-    };
-    let payoffs = floats(bits);
-    payoff_case(
-        s,
-        c,
-        first(&counts, n),
-        first_floats(&payoffs, m),
-        first(&choices, k),
-    )
+    let given = first(&counts, n);
+    let values = floats(bits);
+    let payoffs = first_floats(&values, m);
+    match call {
+        3 => matrix_line(s, c, given, payoffs),
+        7 => count_line(s, c, given, payoffs),
+        8 => equilibria_line(s, c, given, payoffs),
+        9 => dominated_line(s, c, given, payoffs),
+        _ => choices_line(call, s, c, given, payoffs),
+    }
 }
 
 // Runs the case of a line.
@@ -370,36 +667,58 @@ fn run(s: &[u8]) -> Line {
     match call {
         1 => new_line(s, c),
         2 => from_counts_line(s, c),
-        3 => matrix_line(s, c),
-        4 => payoff_line(s, c),
-        _ => Line::Unreadable,
+        _ => table_line(call, s, c),
     }
 }
+
+// ---- the tally
 
 fn same(c: Case) -> bool {
-    if c.told != c.recorded {
+    let told = c.told;
+    let recorded = c.recorded;
+    if told.status != recorded.status {
         return false;
     }
-    if c.told_value != c.recorded_value {
+    if told.value != recorded.value {
         return false;
     }
-    c.space
+    c.rest
 }
 
-fn print_case(line: u64, call: &[u8], c: Case) {
+fn print_call(call: usize) {
+    match call {
+        1 => text(b"Utility::new"),
+        2 => text(b"StrategySpace::from_counts"),
+        3 => text(b"PayoffMatrix::new"),
+        4 => text(b"PayoffMatrix::payoff"),
+        5 => text(b"BestResponseSolver::best_responses"),
+        6 => text(b"is_equilibrium"),
+        7 => text(b"count_equilibria"),
+        8 => text(b"PureNashSolver::equilibria"),
+        9 => text(b"StrictDominanceSolver::strictly_dominated_strategies"),
+        _ => text(b"no call"),
+    }
+}
+
+fn print_told(t: Told) {
+    number(t.status);
+    number(t.value);
+}
+
+fn print_case(line: u64, c: Case) {
     text(b"line");
     number(line);
     text(b": ");
-    text(call);
+    print_call(c.call);
     text(b" told");
-    number(c.told);
-    number(c.told_value);
-    if !c.space {
-        text(b" and another space");
+    let told = c.told;
+    print_told(told);
+    if !c.rest {
+        text(b" and another space or output");
     }
     text(b", recorded");
-    number(c.recorded);
-    number(c.recorded_value);
+    let recorded = c.recorded;
+    print_told(recorded);
     text(b"\n");
 }
 
@@ -409,14 +728,20 @@ fn print_unreadable(line: u64) {
     text(b": cannot be read\n");
 }
 
+// The numbers with one more at a call's place, if there is such a place.
+fn one_more(calls: [u64; CALLS], call: usize) -> [u64; CALLS] {
+    let mut more = calls;
+    if call < CALLS {
+        more[call] = up(more[call]);
+    }
+    more
+}
+
 impl Tally {
     fn new() -> Tally {
         Tally {
             lines: 0,
-            news: 0,
-            spaces: 0,
-            matrices: 0,
-            payoffs: 0,
+            calls: [0; CALLS],
             cases: 0,
             differ: 0,
         }
@@ -430,14 +755,17 @@ impl Tally {
     }
 
     // With a case that was run: printed where it is among the first that differ.
-    fn judged(mut self, call: &[u8], c: Case) -> Tally {
+    fn judged(mut self, c: Case) -> Tally {
+        let before = self.calls;
+        let calls = one_more(before, c.call);
+        self.calls = calls;
         let cases = up(self.cases);
         self.cases = cases;
         if same(c) {
             return self;
         }
         if self.differ < PRINTED {
-            print_case(self.lines, call, c);
+            print_case(self.lines, c);
         }
         self.failed()
     }
@@ -454,26 +782,7 @@ impl Tally {
         let lines = up(self.lines);
         self.lines = lines;
         match line {
-            Line::New(c) => {
-                let n = up(self.news);
-                self.news = n;
-                self.judged(b"Utility::new", c)
-            }
-            Line::FromCounts(c) => {
-                let n = up(self.spaces);
-                self.spaces = n;
-                self.judged(b"StrategySpace::from_counts", c)
-            }
-            Line::Matrix(c) => {
-                let n = up(self.matrices);
-                self.matrices = n;
-                self.judged(b"PayoffMatrix::new", c)
-            }
-            Line::Payoff(c) => {
-                let n = up(self.payoffs);
-                self.payoffs = n;
-                self.judged(b"PayoffMatrix::payoff", c)
-            }
+            Line::Ran(c) => self.judged(c),
             Line::Unreadable => self.unreadable(),
         }
     }
@@ -509,17 +818,19 @@ fn replayed(s: &[u8]) -> Tally {
     tally
 }
 
-fn print_cases(call: &[u8], n: u64) {
-    text(call);
-    number(n);
-    text(b" cases\n");
+fn print_calls(calls: [u64; CALLS]) {
+    let mut call = 1;
+    while call < CALLS {
+        print_call(call);
+        number(calls[call]);
+        text(b" cases\n");
+        call += 1;
+    }
 }
 
 fn report(t: Tally) {
-    print_cases(b"Utility::new", t.news);
-    print_cases(b"StrategySpace::from_counts", t.spaces);
-    print_cases(b"PayoffMatrix::new", t.matrices);
-    print_cases(b"PayoffMatrix::payoff", t.payoffs);
+    let calls = t.calls;
+    print_calls(calls);
     io::print_decimal(STDOUT_FILENO, t.cases);
     text(b" cases,");
     number(t.differ);

@@ -1,9 +1,9 @@
--- `limits::numbers` is safe and ends. The measure is what is left of the list. Assumes nothing.
+-- `cases::numbers` is safe and ends. The measure is what is left of the list. Assumes nothing.
 use Prim.Native.Nat.{_-_}
 use lib.ListN.{length}
 use borrow.Author.Needs.{needs}
-use Rattle.limits.proofs.numbers.Statement.{statement}
-use Rattle.limits.proofs.numbers.Tie as tie
+use Rattle.cases.proofs.numbers.Statement.{statement}
+use Rattle.cases.proofs.numbers.Tie as tie
 
 abbrev Inv-loop : tie.InvT-loop
 Inv-loop list i₀ i = Unit {0}

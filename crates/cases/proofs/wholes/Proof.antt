@@ -1,9 +1,9 @@
--- `limits::wholes` is safe and ends. The measure is what is left of the list. Assumes nothing.
+-- `cases::wholes` is safe and ends. The measure is what is left of the list. Assumes nothing.
 use Prim.Native.Nat.{_-_}
 use lib.ListN.{length}
 use borrow.Author.Needs.{needs}
-use Rattle.limits.proofs.wholes.Statement.{statement}
-use Rattle.limits.proofs.wholes.Tie as tie
+use Rattle.cases.proofs.wholes.Statement.{statement}
+use Rattle.cases.proofs.wholes.Tie as tie
 
 abbrev Inv-loop : tie.InvT-loop
 Inv-loop list i₀ i = Unit {0}

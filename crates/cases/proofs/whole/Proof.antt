@@ -1,10 +1,10 @@
--- `limits::whole` is safe: the two tests are what `truncating_f64_to_u64` asks, with the two numbers by their bit patterns. Assumes nothing.
+-- `cases::whole` is safe: the two tests are what `truncating_f64_to_u64` asks, with the two numbers by their bit patterns. Assumes nothing.
 use mathlib.Core.Path.{sym, subst}
 use lib.Dec.{T}
 use lib.Ieee.{ofBits, neg}
 use borrow.Author.Needs.{needs}
-use Rattle.limits.proofs.whole.Statement.{statement}
-use Rattle.limits.proofs.whole.Tie as tie
+use Rattle.cases.proofs.whole.Statement.{statement}
+use Rattle.cases.proofs.whole.Tie as tie
 
 truncating-f64-to-u64-requires : tie.Need-truncating-f64-to-u64-requires
 unfolding ofBits neg
@@ -19,20 +19,29 @@ slice-aggregate-text c = search needs
 text-requires : tie.Need-text-requires
 text-requires c κs = search needs
 
-print-decimal-requires : tie.Need-print-decimal-requires
-print-decimal-requires c κs = search needs
-
-returns : tie.Need-returns
-returns c = search needs
-
 slice-aggregate-text-2 : tie.Need-slice-aggregate-text-2
 slice-aggregate-text-2 c = search needs
 
 text-requires-2 : tie.Need-text-requires-2
 text-requires-2 c κs = search needs
 
+print-decimal-requires : tie.Need-print-decimal-requires
+print-decimal-requires c κs = search needs
+
+returns : tie.Need-returns
+returns c = search needs
+
 returns-2 : tie.Need-returns-2
 returns-2 c = search needs
+
+slice-aggregate-text-3 : tie.Need-slice-aggregate-text-3
+slice-aggregate-text-3 c = search needs
+
+text-requires-3 : tie.Need-text-requires-3
+text-requires-3 c κs = search needs
+
+returns-3 : tie.Need-returns-3
+returns-3 c = search needs
 
 pub whole-spec : {M : Type 1} → statement M
 whole-spec =
@@ -42,8 +51,11 @@ whole-spec =
     nearest-u64-to-f64-requires
     slice-aggregate-text
     text-requires
-    print-decimal-requires
-    returns
     slice-aggregate-text-2
     text-requires-2
-    returns-2)
+    print-decimal-requires
+    returns
+    returns-2
+    slice-aggregate-text-3
+    text-requires-3
+    returns-3)
