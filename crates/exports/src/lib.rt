@@ -1,6 +1,8 @@
 // The library's calls under C names: include/sigvanyor.h declares them and says what each does.
-// A call answers a status, 0 or the refusal's number, and writes its values through pointers; refused, it writes nothing.
+// A call answers a status, 0 or the refusal's number, and writes its values through pointers; refused, it writes nothing. The candidate
+// checks have no refusals and answer by themselves.
 // A slice is a pointer and the number of its elements.
+use candidates::Claim;
 use refusal::BoolResult;
 use refusal::UnitResult;
 use refusal::UsizeResult;
@@ -22,6 +24,7 @@ ghost use Rattle.table.specs.Outputs.{over};
 ghost use Rattle.best_response.specs.Answers.{responseUtilities, responsesAnswer, responsesWritten};
 ghost use Rattle.pure_nash.specs.Answers.{isEquilibriumAnswer, countAnswer, equilibriaAnswer, equilibriaChoices, equilibriaUtilities};
 ghost use Rattle.strict_dominance.specs.Answers.{strategiesOf, dominatorsOf, dominatedAnswer, dominatedWritten};
+ghost use Rattle.candidates.specs.Checks.{incentives, verdictOf, minimax};
 ghost use Rattle.exports.specs.Status.{status, output, beside, partStart, partLength};
 
 // ---- an answer into its outputs
@@ -307,4 +310,48 @@ pub extern "C" fn sigvanyor_strictly_dominated_strategies(
         dominators,
     );
     usize_into(answer, number)
+}
+
+// `verify_correlated_equilibrium_incentives`: the greatest gain, or infinity.
+#[no_mangle]
+pub extern "C" fn sigvanyor_verify_correlated_equilibrium_incentives(
+    m: usize,
+    n: usize,
+    u1: &[f64],
+    u2: &[f64],
+    weights: &[f64],
+) -> f64
+    ensures { λ r. ⌜ r ≡ incentives m n (now (u1 .entry)) (now (u2 .entry)) (now (weights .entry)) ⌝ }
+{
+    candidates::verify_correlated_equilibrium_incentives(m, n, u1, u2, weights)
+}
+
+// `verdict`: whether that gain is not over the tolerance.
+#[no_mangle]
+pub extern "C" fn sigvanyor_verdict(
+    m: usize,
+    n: usize,
+    u1: &[f64],
+    u2: &[f64],
+    weights: &[f64],
+    tolerance: f64,
+) -> bool
+    ensures { λ r. ⌜ r ≡ verdictOf m n (now (u1 .entry)) (now (u2 .entry)) (now (weights .entry)) tolerance ⌝ }
+{
+    candidates::verdict(m, n, u1, u2, weights, tolerance)
+}
+
+// `verify_minimax_residuals`: whether the claim holds.
+#[no_mangle]
+pub extern "C" fn sigvanyor_verify_minimax_residuals(
+    m: usize,
+    n: usize,
+    payoffs: &[f64],
+    p1: &[f64],
+    p2: &[f64],
+    claim: Claim,
+) -> bool
+    ensures { λ r. ⌜ r ≡ minimax m n (now (payoffs .entry)) (now (p1 .entry)) (now (p2 .entry)) claim ⌝ }
+{
+    candidates::verify_minimax_residuals(m, n, payoffs, p1, p2, claim)
 }

@@ -1,16 +1,16 @@
--- `all` of the first elements of a list, as a walk over it needs (`all-next`, `all-run`, `all-start`), and what it says at each index
--- (`all-at`, `at-all`). True because `all` of two lists joined is both lists' (`all-append`). Assumes nothing.
+-- `all` of the first elements of a list, as a walk over it needs (`all-next`, `all-run`, `all-start`; `all-below` of the numbers below n), and what it says at each index
+-- (`all-at`, `at-all`), and that tests which agree on the elements give the same (`all-cong`). True because `all` of two lists joined is both lists' (`all-append`). Assumes nothing.
 use mathlib.Core.Path.{_≡_, refl, sym, ap, _∙_, subst}
 use mathlib.Core.Bool.{Bool, true, false, _&&_, and-true, and-assoc}
-use mathlib.Core.List.{List, [], _∷_, _++_}
+use mathlib.Core.List.{List, [], _∷_, _++_, List·Memᴰ·head as here, List·Memᴰ·tail as there}
 use Prim.Native.Nat.{ℕ, zero, suc, _+_, _-_, _≤_, _<_, zero-le, suc-le-suc}
 use native.Mathlib.Nat.{not-suc-le-zero, le-of-suc-le-suc, add-sub-of-le}
 use native.Mathlib.Numerals.{add-one}
 use lib.Dec.{T}
 use lib.ListN.{length, take, drop, getD, take-append-drop}
 use lib.Seq.{take-suc, take-add}
-use Rattle.game.specs.Finite.{all}
-use Rattle.game.proofs.Finite.{and-T, test-true}
+use Rattle.game.specs.Finite.{all, below, _∈_}
+use Rattle.game.proofs.Finite.{and-T, test-true, below-last}
 
 module _ {A : Type 0} (f : A → Bool) where
   all-append : (xs ys : List A) → all f (xs ++ ys) ≡ (all f xs && all f ys)
@@ -51,3 +51,16 @@ module _ {A : Type 0} (f : A → Bool) where
   at-all d [] h = refl
   at-all d (x ∷ xs) h =
       ap (λ (b : Bool). b && all f xs) (test-true (f x) (h 0 (suc-le-suc zero-le))) ∙ at-all d xs (λ i l. h (suc i) (suc-le-suc l))
+
+-- tests that agree on every element
+pub all-cong : {A : Type 0} (f g : A → Bool) (xs : List A) → ((x : A) → x ∈ xs → f x ≡ g x) → all f xs ≡ all g xs
+all-cong f g [] e = refl
+all-cong f g (y ∷ ys) e = rw (e y (here refl), all-cong f g ys (λ x k. e x (there k)))
+
+-- one number more
+pub all-below : (f : ℕ → Bool) (n : ℕ) → all f (below (n + 1)) ≡ (all f (below n) && f n)
+all-below f n =
+    ap (λ (m : ℕ). all f (below m)) (add-one n)
+    ∙ ap (all f) (below-last n)
+    ∙ all-append f (below n) (n ∷ [])
+    ∙ ap (λ (b : Bool). all f (below n) && b) (and-true (f n))

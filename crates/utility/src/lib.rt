@@ -15,12 +15,19 @@ pub enum UtilityResult {
     Err(NormalFormError),
 }
 
+// Whether a value is finite. x - x is 0 where x is finite, and a NaN where it is not.
+pub fn is_finite(x: f64) -> bool
+    ensures { λ r. ⌜ r ≡ finite x ⌝ }
+{
+    x - x == 0.0
+}
+
 impl Utility {
-    // The utility of a finite value. x - x is 0 where x is finite, and a NaN where it is not.
+    // The utility of a finite value.
     pub fn new(value: f64) -> UtilityResult
         ensures { λ r. ⌜ toldUtility r ≡ utilityAnswer value ⌝ }
     {
-        if value - value == 0.0 {
+        if is_finite(value) {
             UtilityResult::Ok(Utility(value))
         } else {
             UtilityResult::Err(NormalFormError::NonFiniteUtility)
@@ -64,8 +71,7 @@ fn run_finite(values: &[f64]) -> bool
     let mut ok = true;
     let mut i = 0;
     while i < values.len() {
-        let x = values[i];
-        ok = ok & (x - x == 0.0);
+        ok = ok & is_finite(values[i]);
         i += 1;
     }
     ok

@@ -1,0 +1,89 @@
+-- Comparisons that the code makes: the distance from 0 by a negation under a test (`far-below`, `far-above`), and infinities as bounds that no
+-- finite number passes (`no-high`, `no-low`). Assumes nothing.
+use mathlib.Core.Path.{_≡_, refl, sym, ap, _∙_}
+use mathlib.Core.Bool.{Bool, true, false, not, _&&_, and-true, true≢false}
+use Prim.Native.Nat.{ℕ, zero, suc, _+_, _*_, zero-le, suc-le-suc}
+use native.Mathlib.Nat.{zero-mul, mul-pos, add-zero}
+use native.Mathlib.Omega.{arith}
+use borrow.Author.Tests.{le-ltb, lt-ltb}
+use lib.Dec.{T}
+use lib.IntN.{ℤ, pos}
+use lib.Ieee.{Float, nan, inf, fin, binary64, up, down, ofBits, neg, lt}
+use lib.Ieee.Fits.{up-pos}
+use Rattle.utility.specs.Order.{finite}
+use Rattle.candidates.specs.Sums.{zero as nought, distance}
+use Rattle.candidates.specs.Inner.{between}
+
+zero-is : nought ≡ fin false 0 (pos 0)
+unfolding ofBits
+zero-is = refl
+
+-- ---- infinities as bounds
+
+above-infinity : (x : Float) → T (finite x) → lt (inf false) x ≡ false
+unfolding finite lt
+above-infinity nan h = absurd h
+above-infinity (inf s) h = absurd h
+above-infinity (fin s m e) h = refl
+
+below-minus-infinity : (x : Float) → T (finite x) → lt x (neg (inf false)) ≡ false
+unfolding finite lt neg
+below-minus-infinity nan h = absurd h
+below-minus-infinity (inf s) h = absurd h
+below-minus-infinity (fin s m e) h = refl
+
+-- ---- the distance from 0
+
+-- a product of which a factor is 0
+none : (e d : ℤ) → 0 * up e * down d ≡ 0
+none e d = rw (zero-mul (up e), zero-mul (down d))
+
+below-is : (x : Float) → lt x (fin false 0 (pos 0)) ≡ true → neg x ≡ distance x
+unfolding lt neg distance
+below-is nan h = refl
+below-is (inf true) h = refl
+below-is (inf false) h = absurd (true≢false (sym h))
+below-is (fin true m e) h = refl
+below-is (fin false m e) h = absurd (true≢false (sym h ∙ le-ltb (m * up e * down (pos 0)) (0 * up (pos 0) * down e) (omega (arith, none (pos 0) e))))
+
+-- nothing tells -0.0 from 0.0
+sign-of-zero : (y : Float) (e : ℤ) → lt y (fin true 0 e) ≡ lt y (fin false 0 e)
+unfolding lt
+sign-of-zero nan e = refl
+sign-of-zero (inf s) e = refl
+sign-of-zero (fin true n d) e = rw (none e d, add-zero (n * up d * down e))
+sign-of-zero (fin false n d) e = sym (le-ltb (n * up d * down e) (0 * up e * down d) (omega (arith, none e d)))
+
+above-is : (x y : Float) → lt x (fin false 0 (pos 0)) ≡ false → lt y x ≡ lt y (distance x)
+unfolding lt distance
+above-is nan y h = refl
+above-is (inf true) y h = absurd (true≢false h)
+above-is (inf false) y h = refl
+above-is (fin false m e) y h = refl
+above-is (fin true zero e) y h = sign-of-zero y e
+above-is (fin true (suc m) e) y h =
+    absurd (true≢false (sym (lt-ltb 0 (suc m * up e * down (pos 0) + 0 * up (pos 0) * down e) (omega (arith, mul-pos {m = suc m} (suc-le-suc zero-le) (up-pos e)))) ∙ h))
+
+-- a number below 0 has the sign set
+pub far-below : (x : Float) → lt x nought ≡ true → neg x ≡ distance x
+far-below x h = below-is x (ap (lt x) (sym zero-is) ∙ h)
+
+-- a number that is not has it clear, or is -0.0
+pub far-above : (x y : Float) → lt x nought ≡ false → lt y x ≡ lt y (distance x)
+far-above x y h = above-is x y (ap (lt x) (sym zero-is) ∙ h)
+
+-- ---- bounds of which one is an infinity
+
+pub no-high : (low x : Float) → between low (inf false) x ≡ (finite x && not (lt x low))
+no-high low x = go (finite x) (λ h. above-infinity x h)
+  where
+    go : (f : Bool) → (T f → lt (inf false) x ≡ false) → (f && not (lt x low) && not (lt (inf false) x)) ≡ (f && not (lt x low))
+    go true h = rw (h tt, and-true (not (lt x low)))
+    go false h = refl
+
+pub no-low : (high x : Float) → between (neg (inf false)) high x ≡ (finite x && not (lt high x))
+no-low high x = go (finite x) (λ h. below-minus-infinity x h)
+  where
+    go : (f : Bool) → (T f → lt x (neg (inf false)) ≡ false) → (f && not (lt x (neg (inf false))) && not (lt high x)) ≡ (f && not (lt high x))
+    go true h = rw (h tt)
+    go false h = refl

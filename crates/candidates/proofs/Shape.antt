@@ -1,0 +1,40 @@
+-- Where the numbers of a table with m rows and n columns stand: by the strides of player 1 (`rows-span`,
+-- `by-rows`) and of player 2 (`columns-span`, `by-columns`). Assumes nothing.
+use mathlib.Core.Path.{_≡_, sym, ap, _∙_, subst, fun-ext}
+use mathlib.Core.Bool.{Bool, true, _&&_}
+use mathlib.Core.List.{List}
+use mathlib.Core.Logic.{_↔_}
+use Prim.Native.Nat.{ℕ, _+_, _*_, _≤_, _<_}
+use native.Mathlib.Nat.{le-trans, mul-le-mul-right, mul-le-mul-left, mul-one, add-comm}
+use native.Mathlib.Omega.{arith}
+use lib.Arith.{digits-lt}
+use lib.Dec.{T, leb, leb→le, le→leb}
+use lib.Ieee.{Float, nan}
+use lib.ListN.{length, getD}
+use Rattle.game.proofs.Finite.{and-T}
+use Rattle.candidates.specs.Checks.{maxActions, sized, entry}
+use Rattle.candidates.specs.Meaning.{Sized}
+use Rattle.candidates.specs.Inner.{Spans, strided}
+use Rattle.candidates.proofs.Meaning.{sized-law}
+
+pub is-sized : (m n : ℕ) → sized m n ≡ true → Sized m n
+is-sized m n e = sized-law m n .0 (subst T (sym e) tt)
+
+-- there are few numbers
+pub few-cells : {m n : ℕ} → Sized m n → m * n ≤ maxActions * maxActions
+few-cells {m} {n} r = le-trans (mul-le-mul-right n (r .few-rows)) (mul-le-mul-left maxActions (r .few-columns))
+
+pub rows-span : (m n : ℕ) (table : List Float) → length table ≡ m * n → Spans table n 1 m n
+rows-span m n table e s o h k = subst (λ (i : ℕ). s * n + o * 1 < i) (sym e) (subst (λ (i : ℕ). s * n + i < m * n) (sym (mul-one o)) (digits-lt h k))
+
+pub columns-span : (m n : ℕ) (table : List Float) → length table ≡ m * n → Spans table 1 n n m
+columns-span m n table e s o h k =
+    subst (λ (i : ℕ). s * 1 + o * n < i) (sym e) (subst (λ (i : ℕ). i < m * n) (add-comm (o * n) (s * 1)) (subst (λ (i : ℕ). o * n + i < m * n) (sym (mul-one s)) (digits-lt k h)))
+
+-- the same places as document 01 has them, row by row
+pub by-rows : (n : ℕ) (table : List Float) → strided table n 1 ≡ (λ i j. entry n table i j)
+by-rows n table = fun-ext (λ i. fun-ext (λ j. ap (λ (o : ℕ). getD table (i * n + o) nan) (mul-one j)))
+
+pub by-columns : (n : ℕ) (table : List Float) → strided table 1 n ≡ (λ j i. entry n table i j)
+by-columns n table =
+    fun-ext (λ j. fun-ext (λ i. ap (λ (s : ℕ). getD table (s + i * n) nan) (mul-one j) ∙ ap (λ (k : ℕ). getD table k nan) (add-comm j (i * n))))

@@ -1,0 +1,106 @@
+-- Sums in a given order: what comes last is added last (`sum-last`, `sum-next`, `products-last`, `products-next`), and only the terms at the
+-- indices of the list count (`products-cong`). And sums of products taken side by side, each in its order: at the start and one term on
+-- (`side-start`, `side-next`), true because a turn adds its term to each of them (`added-next`, `added-at`).
+-- Assumes nothing.
+use mathlib.Core.Path.{_≡_, refl, sym, ap, _∙_}
+use mathlib.Core.List.{List, [], _∷_, _++_, map, map-append}
+use Prim.Native.Nat.{ℕ, zero, suc, _+_, _≤_, _<_, zero-le, suc-le-suc}
+use native.Mathlib.Nat.{not-suc-le-zero, le-of-suc-le-suc}
+use native.Mathlib.Numerals.{add-one}
+use native.Mathlib.Omega.{arith}
+use lib.ListN.{length, getD, set, take, replicate, length-replicate, getD-replicate}
+use lib.Seq.{take-suc}
+use lib.Ieee.{Float, nan, binary64, add, mul}
+use Rattle.game.specs.Finite.{below, _∈_}
+use Rattle.game.proofs.Finite.{below-last, map-cong}
+use Rattle.candidates.specs.Sums.{zero as nought, addAll, roundedSum, sumOfProducts}
+use Rattle.candidates.specs.Checks.{maxActions}
+use Rattle.candidates.specs.Inner.{added}
+
+-- ---- a sum
+
+pub addAll-append : (s : Float) (xs ys : List Float) → addAll s (xs ++ ys) ≡ addAll (addAll s xs) ys
+addAll-append s [] ys = refl
+addAll-append s (x ∷ xs) ys = addAll-append (add binary64 s x) xs ys
+
+pub sum-last : (xs : List Float) (x : Float) → roundedSum (xs ++ (x ∷ [])) ≡ add binary64 (roundedSum xs) x
+sum-last xs x = addAll-append _ xs (x ∷ [])
+
+pub sum-next : (xs : List Float) (i : ℕ) → i < length xs
+    → roundedSum (take (i + 1) xs) ≡ add binary64 (roundedSum (take i xs)) (getD xs i nan)
+sum-next xs i h =
+    ap (λ (n : ℕ). roundedSum (take n xs)) (add-one i) ∙ ap roundedSum (take-suc xs i nan h) ∙ sum-last (take i xs) (getD xs i nan)
+
+-- ---- a sum of products
+
+module _ {I : Type 0} (a b : I → Float) where
+  pub products-last : (is : List I) (i : I) → sumOfProducts a b (is ++ (i ∷ [])) ≡ add binary64 (sumOfProducts a b is) (mul binary64 (a i) (b i))
+  products-last is i =
+      ap roundedSum (map-append (λ i. mul binary64 (a i) (b i)) is (i ∷ []))
+      ∙ sum-last (map (λ i. mul binary64 (a i) (b i)) is) (mul binary64 (a i) (b i))
+
+pub products-next : (a b : ℕ → Float) (n : ℕ)
+    → sumOfProducts a b (below (n + 1)) ≡ add binary64 (sumOfProducts a b (below n)) (mul binary64 (a n) (b n))
+products-next a b n =
+    ap (λ (m : ℕ). sumOfProducts a b (below m)) (add-one n) ∙ ap (sumOfProducts a b) (below-last n) ∙ products-last a b (below n) n
+
+pub products-cong : {I : Type 0} (a b c d : I → Float) (is : List I) → ((i : I) → i ∈ is → (a i ≡ c i) × (b i ≡ d i))
+    → sumOfProducts a b is ≡ sumOfProducts c d is
+products-cong a b c d is h =
+    ap roundedSum
+    (map-cong (λ i. mul binary64 (a i) (b i)) (λ i. mul binary64 (c i) (d i)) is
+    (λ i k. ap (λ (x : Float). mul binary64 x (b i)) (h i k .0) ∙ ap (mul binary64 (c i)) (h i k .1)))
+
+-- ---- sums side by side
+
+pub added-length : (n : ℕ) (f : ℕ → Float) (xs : List Float) → length (added n f xs) ≡ length xs
+added-length zero f xs = refl
+added-length (suc n) f [] = refl
+added-length (suc n) f (x ∷ xs) = ap suc (added-length n (λ t. f (suc t)) xs)
+
+pub added-at : (n : ℕ) (f : ℕ → Float) (xs : List Float) (t : ℕ) → t < n → t < length xs
+    → getD (added n f xs) t nan ≡ add binary64 (getD xs t nan) (f t)
+added-at zero f xs t h l = absurd (not-suc-le-zero h)
+added-at (suc n) f [] t h l = absurd (not-suc-le-zero l)
+added-at (suc n) f (x ∷ xs) zero h l = refl
+added-at (suc n) f (x ∷ xs) (suc t) h l = added-at n (λ t. f (suc t)) xs t (le-of-suc-le-suc h) (le-of-suc-le-suc l)
+
+-- only the first n terms count
+pub added-cong : (n : ℕ) (f g : ℕ → Float) (xs : List Float) → ((t : ℕ) → t < n → f t ≡ g t) → added n f xs ≡ added n g xs
+added-cong zero f g xs h = refl
+added-cong (suc n) f g [] h = refl
+added-cong (suc n) f g (x ∷ xs) h =
+    ap {B = List Float} (λ y. add binary64 x y ∷ added n (λ t. f (suc t)) xs) (h 0 (suc-le-suc zero-le))
+    ∙ ap {B = List Float} (λ ys. add binary64 x (g 0) ∷ ys) (added-cong n (λ t. f (suc t)) (λ t. g (suc t)) xs (λ t k. h (suc t) (suc-le-suc k)))
+
+-- the next element gets its term
+pub added-next : (n : ℕ) (f : ℕ → Float) (xs : List Float) → n < length xs
+    → set (added n f xs) n (add binary64 (getD (added n f xs) n nan) (f n)) ≡ added (n + 1) f xs
+added-next n f xs h = go n f xs h ∙ ap (λ (m : ℕ). added m f xs) (one n)
+  where
+    one : (n : ℕ) → suc n ≡ n + 1
+    one n = sym (add-one n)
+
+    go : (n : ℕ) (f : ℕ → Float) (xs : List Float) → n < length xs
+        → set (added n f xs) n (add binary64 (getD (added n f xs) n nan) (f n)) ≡ added (suc n) f xs
+    go n f [] h = absurd (not-suc-le-zero h)
+    go zero f (x ∷ xs) h = refl
+    go (suc n) f (x ∷ xs) h = ap {B = List Float} (λ ys. add binary64 x (f 0) ∷ ys) (go n (λ t. f (suc t)) xs (le-of-suc-le-suc h))
+
+-- the sums a(o) × b(t, o) for o below n, side by side: that of t at place t, for t below `count`
+abbrev pub SideBySide : ℕ → (ℕ → Float) → (ℕ → ℕ → Float) → ℕ → List Float → Type 0
+SideBySide count a b n xs = (length xs ≡ maxActions) × ((t : ℕ) → t < count → getD xs t nan ≡ sumOfProducts a (b t) (below n))
+
+module _ (count : ℕ) (few : count ≤ maxActions) (a : ℕ → Float) (b : ℕ → ℕ → Float) where
+  pub side-start : SideBySide count a b 0 (replicate maxActions nought)
+  side-start = (length-replicate maxActions nought, λ t h. getD-replicate maxActions t nought nan (omega arith))
+
+  pub side-next : (n : ℕ) (xs : List Float) → SideBySide count a b n xs
+      → SideBySide count a b (n + 1) (added count (λ t. mul binary64 (a n) (b t n)) xs)
+  side-next n xs (long, are) = (
+    added-length count (λ t. mul binary64 (a n) (b t n)) xs ∙ long,
+    λ t h.
+        added-at count (λ t. mul binary64 (a n) (b t n)) xs t h (omega (arith, long))
+        ∙ ap (λ (s : Float). add binary64 s (mul binary64 (a n) (b t n))) (are t h)
+        ∙ sym (products-next a (b t) n),
+  )

@@ -1,0 +1,25 @@
+-- `candidates::is_distribution` meets its contract: the tests are those of `distribution`. Assumes nothing.
+use mathlib.Core.Path.{_≡_, sym, ap, _∙_}
+use borrow.Author.Needs.{needs}
+use borrow.Author.Tests.{not-true, not-false}
+use Rattle.candidates.specs.Checks.{distribution}
+use Rattle.candidates.proofs.is_distribution.Statement.{statement}
+use Rattle.candidates.proofs.is_distribution.Tie as tie
+
+none-below-requires : tie.Need-none-below-requires
+none-below-requires c κs = search needs
+
+returns : tie.Need-returns
+unfolding distribution
+returns c = rw (sym (c .before .none-below .ensures) ∙ not-true _ (c .if1 .taken))
+
+sums-to-one-requires : tie.Need-sums-to-one-requires
+sums-to-one-requires c κs = search needs
+
+returns-2 : tie.Need-returns-2
+unfolding distribution
+returns-2 c = c .sums-to-one .ensures ∙ rw (sym (c .before .before .none-below .ensures) ∙ not-false _ (c .before .if1 .left))
+
+pub is-distribution-spec : {M : Type 1} → statement M
+is-distribution-spec =
+    tie.close (tie.spec none-below-requires returns sums-to-one-requires returns-2)
