@@ -7,3 +7,5 @@ pub mod Meaning
 pub mod Shape
 pub mod Incentives
 pub mod Expectations
+pub mod Laws
+pub mod Computed

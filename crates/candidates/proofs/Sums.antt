@@ -1,16 +1,18 @@
--- Sums in a given order: what comes last is added last (`sum-last`, `sum-next`, `products-last`, `products-next`), and only the terms at the
--- indices of the list count (`products-cong`). And sums of products taken side by side, each in its order: at the start and one term on
+-- Sums in a given order: what comes last is added last (`sum-last`, `sum-next`, `products-last`, `products-next`), only the terms at the
+-- indices of the list count (`products-cong`), and the factors may change places (`products-swap`). And sums of products taken side by side, each in its order: at the start and one term on
 -- (`side-start`, `side-next`), true because a turn adds its term to each of them (`added-next`, `added-at`).
 -- Assumes nothing.
 use mathlib.Core.Path.{_≡_, refl, sym, ap, _∙_}
+use mathlib.Core.Bool.{Bool, true, false, cond}
 use mathlib.Core.List.{List, [], _∷_, _++_, map, map-append}
-use Prim.Native.Nat.{ℕ, zero, suc, _+_, _≤_, _<_, zero-le, suc-le-suc}
-use native.Mathlib.Nat.{not-suc-le-zero, le-of-suc-le-suc}
+use Prim.Native.Nat.{ℕ, zero, suc, _+_, _*_, _≤_, _<_, zero-le, suc-le-suc}
+use native.Mathlib.Nat.{not-suc-le-zero, le-of-suc-le-suc, mul-comm}
 use native.Mathlib.Numerals.{add-one}
 use native.Mathlib.Omega.{arith}
 use lib.ListN.{length, getD, set, take, replicate, length-replicate, getD-replicate}
 use lib.Seq.{take-suc}
-use lib.Ieee.{Float, nan, binary64, add, mul}
+use lib.Dec.{eqb}
+use lib.Ieee.{Float, nan, inf, fin, binary64, unlike, up, down, round, add, mul}
 use Rattle.game.specs.Finite.{below, _∈_}
 use Rattle.game.proofs.Finite.{below-last, map-cong}
 use Rattle.candidates.specs.Sums.{zero as nought, addAll, roundedSum, sumOfProducts}
@@ -50,6 +52,32 @@ products-cong a b c d is h =
     ap roundedSum
     (map-cong (λ i. mul binary64 (a i) (b i)) (λ i. mul binary64 (c i) (d i)) is
     (λ i k. ap (λ (x : Float). mul binary64 x (b i)) (h i k .0) ∙ ap (mul binary64 (c i)) (h i k .1)))
+
+-- the order of the factors does not matter
+unlike-comm : (s t : Bool) → unlike s t ≡ unlike t s
+unlike-comm true true = refl
+unlike-comm true false = refl
+unlike-comm false true = refl
+unlike-comm false false = refl
+
+pub mul-commutes : (x y : Float) → mul binary64 x y ≡ mul binary64 y x
+unfolding mul
+mul-commutes nan nan = refl
+mul-commutes nan (inf t) = refl
+mul-commutes nan (fin t n d) = refl
+mul-commutes (inf s) nan = refl
+mul-commutes (inf s) (inf t) = ap inf (unlike-comm s t)
+mul-commutes (inf s) (fin t n d) = ap (λ (b : Bool). cond (eqb n 0) nan (inf b)) (unlike-comm s t)
+mul-commutes (fin s m e) nan = refl
+mul-commutes (fin s m e) (inf t) = ap (λ (b : Bool). cond (eqb m 0) nan (inf b)) (unlike-comm s t)
+mul-commutes (fin s m e) (fin t n d) =
+    ap (λ (b : Bool). round binary64 b (m * up e * (n * up d)) (down e * down d)) (unlike-comm s t)
+    ∙ ap (λ (a : ℕ). round binary64 (unlike t s) a (down e * down d)) (mul-comm (m * up e) (n * up d))
+    ∙ ap (λ (c : ℕ). round binary64 (unlike t s) (n * up d * (m * up e)) c) (mul-comm (down e) (down d))
+
+pub products-swap : {I : Type 0} (a b : I → Float) (is : List I) → sumOfProducts a b is ≡ sumOfProducts b a is
+products-swap a b is =
+    ap roundedSum (map-cong (λ i. mul binary64 (a i) (b i)) (λ i. mul binary64 (b i) (a i)) is (λ i _. mul-commutes (a i) (b i)))
 
 -- ---- sums side by side
 

@@ -1,14 +1,16 @@
 -- What the tests of `Checks` say of every row, column and number. Assumes nothing.
 use mathlib.Core.Path.{_≡_}
-use mathlib.Core.Bool.{false}
+use mathlib.Core.Bool.{true, false}
 use mathlib.Core.List.{List}
+use mathlib.Core.Logic.{_⊎_}
 use Prim.Native.Nat.{ℕ, _*_, _≤_, _<_}
 use lib.Dec.{T}
 use lib.ListN.{length, getD}
 use lib.Ieee.{Float, nan, binary64, neg, add, sub, lt}
+use Rattle.game.specs.Finite.{_∈_}
 use Rattle.utility.specs.Order.{finite}
 use Rattle.candidates.specs.Sums.{zero, one, roundedSum, distance}
-use Rattle.candidates.specs.Checks.{maxActions, column, row}
+use Rattle.candidates.specs.Checks.{maxActions, gain, column, row}
 use Rattle.candidates.specs.declared.Claim.{Claim}
 
 -- 1 to 64 rows and 1 to 64 columns
@@ -31,6 +33,20 @@ NoneBelow bound xs = (i : ℕ) → i < length xs → lt (getD xs i nan) bound �
 pub record Tolerable (tolerance : Float) : Type 0 where
   pub number : T (finite tolerance)
   pub not-negative : lt tolerance zero ≡ false
+
+-- the greatest number of a list, or +0.0 when none is above 0
+pub record Greatest (xs : List Float) (g : Float) : Type 0 where
+  pub top : (x : Float) → x ∈ xs → lt g x ≡ false
+  pub found : (g ≡ zero) ⊎ ((g ∈ xs) × (lt zero g ≡ true))
+
+-- a gain of a player: by some t ≠ s in place of s
+pub record Gain {I : Type 0} (weight payoff : ℕ → I → Float) (others : List I) (count : ℕ) (x : Float) : Type 0 where
+  pub from : ℕ
+  pub to : ℕ
+  pub strategy : from < count
+  pub change : to < count
+  pub another : to ≡ from → ⊥
+  pub is : x ≡ gain weight payoff others from to
 
 pub record WellFormed (m n : ℕ) (u1 u2 weights : List Float) : Type 0 where
   pub size : Sized m n

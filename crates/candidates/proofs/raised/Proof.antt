@@ -1,8 +1,9 @@
 -- `candidates::raised` meets its contract: the tests are those of `raise`. Assumes nothing.
-use mathlib.Core.Path.{_≡_, sym, ap, _∙_}
+use mathlib.Core.Path.{_≡_, sym, _∙_}
+use mathlib.Core.Bool.{true, false}
 use borrow.Author.Needs.{needs}
 use borrow.Author.Tests.{not-true, not-false}
-use Rattle.candidates.specs.Inner.{raise}
+use Rattle.utility.specs.Order.{finite}
 use Rattle.candidates.proofs.raised.Statement.{statement}
 use Rattle.candidates.proofs.raised.Tie as tie
 
@@ -16,13 +17,21 @@ infinity-requires c κs = search needs
 
 returns : tie.Need-returns
 returns c =
-    c .infinity .ensures ∙ rw (sym (c .before .before .is-finite .ensures) ∙ not-true _ (c .before .if1 .taken))
+    let x = c .before .before .before .args .gain in
+    let e : finite x ≡ false = sym (c .before .before .is-finite .ensures) ∙ not-true _ (c .before .if1 .taken) in
+    c .infinity .ensures ∙ rw e
 
 returns-2 : tie.Need-returns-2
-returns-2 c = rw (sym (c .before .before .is-finite .ensures) ∙ not-false _ (c .before .if1 .left), c .if2 .taken)
+returns-2 c =
+    let x = c .before .before .before .args .gain in
+    let e : finite x ≡ true = sym (c .before .before .is-finite .ensures) ∙ not-false _ (c .before .if1 .left) in
+    rw (e, c .if2 .taken)
 
 returns-3 : tie.Need-returns-3
-returns-3 c = rw (sym (c .before .before .is-finite .ensures) ∙ not-false _ (c .before .if1 .left), c .if2 .left)
+returns-3 c =
+    let x = c .before .before .before .args .gain in
+    let e : finite x ≡ true = sym (c .before .before .is-finite .ensures) ∙ not-false _ (c .before .if1 .left) in
+    rw (e, c .if2 .left)
 
 pub raised-spec : {M : Type 1} → statement M
 raised-spec = tie.close (tie.spec is-finite-requires infinity-requires returns returns-2 returns-3)

@@ -1,7 +1,7 @@
 -- `candidates::verify_minimax_residuals` meets its contract: the tests are those of `minimax`, and an infinity as a bound lets every finite
 -- expectation pass. Assumes nothing.
 use mathlib.Core.Path.{_≡_, sym, ap, _∙_, subst}
-use mathlib.Core.Bool.{true}
+use mathlib.Core.Bool.{true, false}
 use native.Mathlib.Omega.{arith}
 use borrow.Author.Needs.{needs}
 use borrow.Author.Tests.{not-true, not-false}
@@ -23,7 +23,10 @@ is-claim-requires c κs = search needs
 
 returns : tie.Need-returns
 unfolding minimax
-returns c = rw (sym (c .before .is-claim .ensures) ∙ not-true _ (c .if1 .taken))
+returns c =
+    let a = c .before .before .before .before .before .args in
+    let e : claimed (a .m) (a .n) (a .payoffs .now) (a .p1 .now) (a .p2 .now) (a .claim) ≡ false = sym (c .before .is-claim .ensures) ∙ not-true _ (c .if1 .taken) in
+    rw e
 
 is-distribution-requires : tie.Need-is-distribution-requires
 is-distribution-requires c κs = search needs
@@ -42,14 +45,20 @@ first-is c = sym (c .before .is-distribution .ensures) ∙ not-false _ (c .if2 .
 
 returns-2 : tie.Need-returns-2
 unfolding minimax
-returns-2 c = rw (claimed-is (c .before .before), sym (c .before .is-distribution .ensures) ∙ not-true _ (c .if2 .taken))
+returns-2 c =
+    let a = c .before .before .before .before .before .before .before .args in
+    let e : distribution (a .p1 .now) (a .claim .tolerance) ≡ false = sym (c .before .is-distribution .ensures) ∙ not-true _ (c .if2 .taken) in
+    rw (claimed-is (c .before .before), e)
 
 is-distribution-requires-2 : tie.Need-is-distribution-requires-2
 is-distribution-requires-2 c κs = search needs
 
 returns-3 : tie.Need-returns-3
 unfolding minimax
-returns-3 c = rw (claimed-is (c .before .before .before .before), first-is (c .before .before), sym (c .before .is-distribution2 .ensures) ∙ not-true _ (c .if3 .taken))
+returns-3 c =
+    let a = c .before .before .before .before .before .before .before .before .before .args in
+    let e : distribution (a .p2 .now) (a .claim .tolerance) ≡ false = sym (c .before .is-distribution2 .ensures) ∙ not-true _ (c .if3 .taken) in
+    rw (claimed-is (c .before .before .before .before), first-is (c .before .before), e)
 
 second-is : (c : tie.Else3) → let a = c .before .before .before .before .before .before .before .before .before .args in distribution (a .p2 .now) (a .claim .tolerance) ≡ true
 second-is c = sym (c .before .is-distribution2 .ensures) ∙ not-false _ (c .if3 .left)
