@@ -1,22 +1,26 @@
 -- A finite f64 is the one f64 with its sign and its size (`one-value`), and a finite f64 less 0.0 is itself (`less-zero`): what is rounded there
--- is a value already. Assumes nothing.
+-- is a value already. So a sum that starts at its first number and one that starts at 0.0 are the same, less 1.0 (`sum-start`): they differ
+-- only where all numbers are −0.0. Assumes nothing.
 use mathlib.Core.Path.{_≡_, refl, sym, ap, _∙_, subst}
+use mathlib.Core.Logic.{_⊎_, inl, inr, ⊎-elim}
 use mathlib.Core.Bool.{Bool, true, false, cond, _&&_}
-use Prim.Native.Nat.{ℕ, zero, suc, _+_, _*_, _/_, _%_, _-_, _^_, _<_, zero-le}
-use native.Mathlib.Nat.{mul-one, zero-mul, mul-comm, mul-right-comm, mul-lt-mul-of-pos-right, lt-of-mul-lt-mul-right, eq-of-mul-eq-mul-right, add-zero, sub-zero}
+use mathlib.Core.List.{List, [], _∷_, List·Memᴰ·head as here, List·Memᴰ·tail as there}
+use Prim.Native.Nat.{ℕ, zero, suc, _+_, _*_, _/_, _%_, _-_, _^_, _<_, zero-le, suc-le-suc}
+use native.Mathlib.Nat.{mul-one, zero-mul, mul-comm, mul-right-comm, mul-lt-mul-of-pos-right, lt-of-mul-lt-mul-right, eq-of-mul-eq-mul-right, add-zero, zero-add, sub-zero, one-mul, mul-pos}
 use native.Mathlib.Omega.{arith}
-use borrow.Author.Tests.{le-ltb}
+use borrow.Author.Tests.{le-ltb, lt-ltb}
 use lib.Dec.{T, eqb, ltb, leb, ltb→lt, leb→le}
 use lib.IntN.{ℤ, pos}
 use lib.Pow.{pow-add, pow-pos}
 use lib.Ieee.{Float, nan, inf, fin, binary64, prec, emax, low, top, hid, size, up, down, ofBits, toBits, round, sum, add, sub, neg, fits}
-use lib.Ieee.Fits.{down-pos, round-fits, and-l, and-r}
+use lib.Ieee.Fits.{up-pos, down-pos, round-fits, and-l, and-r}
 use lib.Ieee.Bits.{ofBits-toBits}
 use lib.Ieee.Exact.{HasValue, round-exact}
 use lib.Ieee.Nearest.{div-same}
+use Rattle.game.specs.Finite.{_∈_}
 use Rattle.utility.specs.Order.{finite}
 use Rattle.utility.proofs.Numbers.{place}
-use Rattle.candidates.specs.Sums.{zero as nought}
+use Rattle.candidates.specs.Sums.{zero as nought, one, addAll, roundedSum}
 
 -- ---- one value for a sign and a size
 
@@ -91,3 +95,79 @@ less-zero (fin s m e) h k =
     with-none s (m * up e * 1) (0 * down e) (down e * 1) (down e) (zero-mul (down e)) (mul-one (down e))
     ∙ ap (λ (i : ℕ). round binary64 s i (down e)) (mul-one (m * up e))
     ∙ round-own s m e h
+
+-- ---- where a sum starts
+
+-- the sum of a zero and a number above 0 in size is rounded from that number
+none-with : (s t : Bool) (a b c d : ℕ) → a ≡ 0 → 0 < b → c ≡ d → sum binary64 s a t b c ≡ round binary64 t b d
+unfolding sum
+none-with true true a b c d h l k = rw (h, k, zero-add b)
+none-with false false a b c d h l k = rw (h, k, zero-add b)
+none-with true false a b c d h l k = rw (h, k, lt-ltb 0 b l, sub-zero b)
+none-with false true a b c d h l k = rw (h, k, lt-ltb 0 b l, sub-zero b)
+
+zero-with : (s t : Bool) (m : ℕ) (e : ℤ) → T (fits binary64 (fin t (suc m) e)) → add binary64 (fin s 0 (pos 0)) (fin t (suc m) e) ≡ fin t (suc m) e
+unfolding add
+zero-with s t m e h =
+    none-with s t (0 * up (pos 0) * down e) (suc m * up e * 1) (1 * down e) (down e) (zero-mul (down e)) (omega (arith, mul-pos {m = suc m} (suc-le-suc zero-le) (up-pos e))) (one-mul (down e))
+    ∙ ap (λ (i : ℕ). round binary64 t i (down e)) (mul-one (suc m * up e))
+    ∙ round-own t (suc m) e h
+
+-- the same number, or 0.0 and −0.0
+abbrev Close : Float → Float → Type 0
+Close a b = (a ≡ b) ⊎ ((a ≡ fin false 0 (pos 0)) × (b ≡ fin true 0 (pos 0)))
+
+zeros-of : (t : Bool) → Close (add binary64 (fin false 0 (pos 0)) (fin t 0 (pos 0))) (add binary64 (fin true 0 (pos 0)) (fin t 0 (pos 0)))
+unfolding add
+zeros-of true = inr (refl, refl)
+zeros-of false = inl refl
+
+-- a zero is one of the two
+zero-once : (t : Bool) (e : ℤ) → T (fits binary64 (fin t 0 e)) → fin t 0 e ≡ fin t 0 (pos 0)
+unfolding fits
+zero-once t e h =
+    one-value (fin t 0 e) (fin t 0 (pos 0)) t 0 1 h tt (suc-le-suc zero-le)
+    (refl, ap (λ (i : ℕ). i * 1) (zero-mul (up e)) ∙ sym (zero-mul (down e))) (refl, refl)
+
+zeros-with : (y : Float) → T (fits binary64 y) → T (finite y) → Close (add binary64 (fin false 0 (pos 0)) y) (add binary64 (fin true 0 (pos 0)) y)
+unfolding finite fits
+zeros-with nan h k = absurd k
+zeros-with (inf s) h k = absurd k
+zeros-with (fin t (suc m) e) h k = inl (zero-with false t m e h ∙ sym (zero-with true t m e h))
+zeros-with (fin t zero e) h k =
+    subst (λ (y : Float). Close (add binary64 (fin false 0 (pos 0)) y) (add binary64 (fin true 0 (pos 0)) y)) (sym (zero-once t e h)) (zeros-of t)
+
+close-next : (a b y : Float) → T (fits binary64 y) → T (finite y) → Close a b → Close (add binary64 a y) (add binary64 b y)
+close-next a b y h k (inl e) = inl (ap (λ (x : Float). add binary64 x y) e)
+close-next a b y h k (inr (p, q)) = subst (λ (x : Float). Close (add binary64 x y) (add binary64 b y)) (sym p) (subst (λ (x : Float). Close (add binary64 (fin false 0 (pos 0)) y) (add binary64 x y)) (sym q) (zeros-with y h k))
+
+close-all : (a b : Float) (xs : List Float) → ((x : Float) → x ∈ xs → T (fits binary64 x) × T (finite x)) → Close a b → Close (addAll a xs) (addAll b xs)
+close-all a b [] each h = h
+close-all a b (x ∷ xs) each h =
+    let (f, g) = each x (here refl) in
+    close-all (add binary64 a x) (add binary64 b x) xs (λ y k. each y (there k)) (close-next a b x f g h)
+
+close-start : (x : Float) → T (fits binary64 x) → T (finite x) → Close (add binary64 nought x) x
+unfolding finite fits ofBits add
+close-start nan h k = absurd k
+close-start (inf s) h k = absurd k
+close-start (fin t (suc m) e) h k = inl (zero-with false t m e h)
+close-start (fin t zero e) h k = subst (λ (y : Float). Close (add binary64 nought y) y) (sym (zero-once t e h)) (start t)
+  where
+    start : (t : Bool) → Close (add binary64 nought (fin t 0 (pos 0))) (fin t 0 (pos 0))
+    start true = inr (refl, refl)
+    start false = inl refl
+
+close-less : (a b : Float) → Close a b → sub binary64 a one ≡ sub binary64 b one
+unfolding sub add ofBits
+close-less a b (inl e) = ap (λ (x : Float). sub binary64 x one) e
+close-less a b (inr (p, q)) = ap (λ (x : Float). sub binary64 x one) p ∙ minus-one ∙ sym (ap (λ (x : Float). sub binary64 x one) q)
+  where
+    minus-one : sub binary64 (fin false 0 (pos 0)) one ≡ sub binary64 (fin true 0 (pos 0)) one
+    minus-one = refl
+
+pub sum-start : (x : Float) (xs : List Float) → ((y : Float) → y ∈ x ∷ xs → T (fits binary64 y) × T (finite y))
+    → sub binary64 (roundedSum (x ∷ xs)) one ≡ sub binary64 (addAll x xs) one
+sum-start x xs each =
+    let (f, g) = each x (here refl) in
+    close-less (roundedSum (x ∷ xs)) (addAll x xs) (close-all (add binary64 nought x) x xs (λ y k. each y (there k)) (close-start x f g))

@@ -2,13 +2,13 @@
 -- finite number passes (`no-high`, `no-low`). Assumes nothing.
 use mathlib.Core.Path.{_≡_, refl, sym, ap, _∙_}
 use mathlib.Core.Bool.{Bool, true, false, not, _&&_, and-true, true≢false}
-use Prim.Native.Nat.{ℕ, zero, suc, _+_, _*_, zero-le, suc-le-suc}
+use Prim.Native.Nat.{zero, suc, _+_, _*_, zero-le, suc-le-suc}
 use native.Mathlib.Nat.{zero-mul, mul-pos, add-zero}
 use native.Mathlib.Omega.{arith}
 use borrow.Author.Tests.{le-ltb, lt-ltb}
 use lib.Dec.{T}
 use lib.IntN.{ℤ, pos}
-use lib.Ieee.{Float, nan, inf, fin, binary64, up, down, ofBits, neg, lt}
+use lib.Ieee.{Float, nan, inf, fin, up, down, ofBits, neg, lt}
 use lib.Ieee.Fits.{up-pos}
 use Rattle.utility.specs.Order.{finite}
 use Rattle.candidates.specs.Sums.{zero as nought, distance}

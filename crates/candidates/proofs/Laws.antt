@@ -3,7 +3,7 @@
 -- verdict (`infinite-verdict`). True because f64s that are no NaN are in the order of their ranks. Assumes nothing.
 use mathlib.Core.Path.{_≡_, refl, sym, ap, _∙_, subst}
 use mathlib.Core.Bool.{Bool, true, false, cond, not, _&&_, _||_, and-false, true≢false}
-use mathlib.Core.List.{List, [], _∷_, map, flatMap, List·Memᴰ·head as here, List·Memᴰ·tail as there, List·Memᴰ·not-nil as not-in-nil, List·Memᴰ·cases-cons as in-cons, Memᴰ·map as to-map, Memᴰ·of-map as of-map, List·Memᴰ·append-cases as in-append}
+use mathlib.Core.List.{List, [], _∷_, map, List·Memᴰ·head as here, List·Memᴰ·tail as there, List·Memᴰ·not-nil as not-in-nil, List·Memᴰ·cases-cons as in-cons, Memᴰ·map as to-map, Memᴰ·of-map as of-map, List·Memᴰ·append-cases as in-append}
 use mathlib.Core.Logic.{_↔_, _⊎_, inl, inr, ⊎-elim}
 use Prim.Native.Nat.{ℕ, _≤_, _<_}
 use native.Mathlib.Omega.{arith}
@@ -17,7 +17,7 @@ use Rattle.game.proofs.Finite.{no-T, either, test-true, test-false, eqb-T, all-
 use Rattle.utility.specs.Order.{finite, rank}
 use Rattle.utility.proofs.Laws.{lt-rank}
 use Rattle.candidates.specs.Sums.{zero, addAll, roundedSum}
-use Rattle.candidates.specs.Checks.{entry, gain, gainsFrom, gainsOf, greatestFrom, greatest, wellFormed, gains, incentives, tolerable, verdictOf}
+use Rattle.candidates.specs.Checks.{gain, gainsFrom, gainsOf, greatestFrom, greatest, wellFormed, gains, incentives, tolerable, verdictOf}
 use Rattle.candidates.specs.Meaning.{Greatest, Gain}
 use Rattle.candidates.proofs.Incentives.{not-formed}
 

@@ -1,6 +1,6 @@
 -- The tests of `Checks` say what `Meaning` has: `sized-law`, `well-formed-law`, `verdict-law`, `minimax-law` and their parts. Assumes nothing.
 use mathlib.Core.Path.{_≡_, sym, subst}
-use mathlib.Core.Bool.{Bool, true, false, not, _&&_}
+use mathlib.Core.Bool.{Bool, false, not, _&&_}
 use mathlib.Core.List.{List}
 use mathlib.Core.Logic.{_↔_, Iff·rfl}
 use Prim.Native.Nat.{ℕ, _*_, _≤_, _<_}
@@ -13,7 +13,7 @@ use Rattle.utility.specs.Order.{finite}
 use Rattle.utility.proofs.All.{all-at, at-all}
 use Rattle.candidates.specs.Sums.{zero, one, roundedSum, distance}
 use Rattle.candidates.specs.Checks.{maxActions, sized, wellFormed, incentives, tolerable, verdictOf, sumsToOne, distribution, claimed, column, row, columnHolds, rowHolds, minimax}
-use Rattle.candidates.specs.Meaning.{Sized, Finites, NoneBelow, Tolerable, WellFormed, Claimed, Distribution, Minimax}
+use Rattle.candidates.specs.Meaning.{Sized, NoneBelow, Tolerable, WellFormed, Claimed, Distribution, Minimax}
 use Rattle.candidates.specs.declared.Claim.{Claim}
 
 -- ---- tests of one kind

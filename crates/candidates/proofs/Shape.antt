@@ -1,17 +1,14 @@
 -- Where the numbers of a table with m rows and n columns stand: by the strides of player 1 (`rows-span`,
 -- `by-rows`) and of player 2 (`columns-span`, `by-columns`). Assumes nothing.
 use mathlib.Core.Path.{_≡_, sym, ap, _∙_, subst, fun-ext}
-use mathlib.Core.Bool.{Bool, true, _&&_}
+use mathlib.Core.Bool.{true}
 use mathlib.Core.List.{List}
-use mathlib.Core.Logic.{_↔_}
 use Prim.Native.Nat.{ℕ, _+_, _*_, _≤_, _<_}
 use native.Mathlib.Nat.{le-trans, mul-le-mul-right, mul-le-mul-left, mul-one, add-comm}
-use native.Mathlib.Omega.{arith}
 use lib.Arith.{digits-lt}
-use lib.Dec.{T, leb, leb→le, le→leb}
+use lib.Dec.{T}
 use lib.Ieee.{Float, nan}
 use lib.ListN.{length, getD}
-use Rattle.game.proofs.Finite.{and-T}
 use Rattle.candidates.specs.Checks.{maxActions, sized, entry}
 use Rattle.candidates.specs.Meaning.{Sized}
 use Rattle.candidates.specs.Inner.{Spans, strided}

@@ -67,7 +67,6 @@ module _ (m n : ℕ) (u1 u2 weights : List Float) where
 
   -- infinity for what is not well formed and for a gain that isn't finite, else the greatest gain, or +0.0 when none is above 0
   unfoldable pub incentives : Float
-  unfolding wellFormed gains
   incentives = cond (wellFormed && all finite gains) (greatest gains) (inf false)
 
 -- ---- the verdict, document 01's term
@@ -78,19 +77,16 @@ tolerable tolerance = finite tolerance && not (lt tolerance zero)
 
 -- yes exactly when the tolerance is finite and not below 0, and the answer above is not over it
 unfoldable pub verdictOf : ℕ → ℕ → List Float → List Float → List Float → Float → Bool
-unfolding incentives
 verdictOf m n u1 u2 weights tolerance = tolerable tolerance && not (lt tolerance (incentives m n u1 u2 weights))
 
 -- ---- the minimax check
 
 -- a vector's sum taken left to right, less 1.0 and rounded, is no further from 0 than the tolerance
 unfoldable pub sumsToOne : List Float → Float → Bool
-unfolding distance
 sumsToOne p tolerance = not (lt tolerance (distance (sub binary64 (roundedSum p) one)))
 
 -- no entry is below −tolerance, and the sum is 1.0 up to the tolerance
 unfoldable pub distribution : List Float → Float → Bool
-unfolding sumsToOne
 distribution p tolerance = all (λ x. not (lt x (neg tolerance))) p && sumsToOne p tolerance
 
 module _ (m n : ℕ) (payoffs p1 p2 : List Float) (claim : Claim) where
@@ -125,7 +121,6 @@ module _ (m n : ℕ) (payoffs p1 p2 : List Float) (claim : Claim) where
 
   -- yes where nothing makes it no
   unfoldable pub minimax : Bool
-  unfolding claimed distribution
   minimax =
       claimed
       && distribution p1 (claim .tolerance)

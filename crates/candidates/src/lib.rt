@@ -1,8 +1,9 @@
 // Candidate checks: whether weights and vectors that some solver claims are a correlated equilibrium or a minimax solution of a game of two
 // players. Tables are flat by rows, of m rows and n columns. Nothing that is handed in is believed.
 //
-// All sums of one kind are taken side by side, each of them in its own order: the numbers at own choice s and others' choice o stand at
-// s × own + o × other in the table. For player 1 `own` is n and `other` 1, for player 2 the other way round.
+// All sums of one kind are taken side by side, each of them in its own order. A player has `count` strategies and the other one `others`; the
+// number of own strategy s and the other's o stands at s × own + o × other in a table. For player 1 `own` is n and `other` is 1, for player 2
+// `own` is 1 and `other` is n.
 ghost use mathlib.Core.Path.{_≡_};
 ghost use mathlib.Core.Bool.{true, false, not};
 ghost use mathlib.Core.List.{map};
@@ -26,6 +27,7 @@ pub struct Claim {
     pub tolerance: f64,
 }
 
+// Infinity, which no constant can be.
 fn infinity() -> f64
     ensures { λ r. ⌜ r ≡ inf false ⌝ }
 {
@@ -34,20 +36,11 @@ fn infinity() -> f64
 
 // ---- checks of what is handed in
 
-// Whether there are 1 to 64 rows and 1 to 64 columns.
+// Whether there are 1 to MAX_ACTIONS rows and 1 to MAX_ACTIONS columns.
 fn is_sized(m: usize, n: usize) -> bool
     ensures { λ r. ⌜ r ≡ sized m n ⌝ }
 {
-    if m < 1 {
-        return false;
-    }
-    if m > MAX_ACTIONS {
-        return false;
-    }
-    if n < 1 {
-        return false;
-    }
-    n <= MAX_ACTIONS
+    (1 <= m) & (m <= MAX_ACTIONS) & (1 <= n) & (n <= MAX_ACTIONS)
 }
 
 // Whether no number is below `bound`. The loop has no exit inside, so that it is compiled to vector instructions.
@@ -67,10 +60,7 @@ fn none_below(values: &[f64], bound: f64) -> bool
 fn is_tolerable(tolerance: f64) -> bool
     ensures { λ r. ⌜ r ≡ tolerable tolerance ⌝ }
 {
-    if !utility::is_finite(tolerance) {
-        return false;
-    }
-    !(tolerance < 0.0)
+    utility::is_finite(tolerance) & !(tolerance < 0.0)
 }
 
 // ---- sums
@@ -218,7 +208,7 @@ fn is_well_formed(m: usize, n: usize, u1: &[f64], u2: &[f64], weights: &[f64]) -
 
 // The greatest gain of a player who changes one strategy for another, +0.0 where none is above 0: player 1 has the rows and the payoffs u1,
 // player 2 the columns and u2, and `weights` is the candidate. Infinity where a gain isn't finite, and where what is handed in is not as it
-// is said: sizes of 1 to 64, lengths of m × n, finite numbers, no negative weight.
+// is said: sizes of 1 to MAX_ACTIONS, lengths of m × n, finite numbers, no negative weight.
 pub fn verify_correlated_equilibrium_incentives(
     m: usize,
     n: usize,
@@ -307,7 +297,8 @@ fn all_between(values: &[f64], count: usize, low: f64, high: f64) -> bool
     ok
 }
 
-// Whether what a vector over the others' choices gives is finite, not below `low` and not above `high`, for each own choice.
+// Whether, for each own strategy, the expectation under a vector over the other's strategies is finite, not below `low` and not above `high`.
+// A payoff less 0.0 is the payoff itself.
 fn expectations_between(
     payoffs: &[f64],
     vector: &[f64],
@@ -335,7 +326,7 @@ fn expectations_between(
 
 // Whether p1 and p2 are minimax strategies of the table and claim.value its value to player 1, up to claim.tolerance: both vectors are
 // distributions, p1 gives no less than the value in every column, and p2 no more in every row. No, too, where an expectation isn't finite,
-// and where what is handed in is not as it is said: sizes of 1 to 64, lengths of m × n, m and n, finite numbers, no negative tolerance.
+// and where what is handed in is not as it is said: sizes of 1 to MAX_ACTIONS, lengths of m × n, m and n, finite numbers, no negative tolerance.
 pub fn verify_minimax_residuals(
     m: usize,
     n: usize,

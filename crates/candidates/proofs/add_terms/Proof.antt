@@ -1,6 +1,6 @@
 -- `candidates::add_terms` meets its contract. The loop's invariant: the sums passed have their term, the others are as before. The measure is
 -- what is left of the count. Assumes nothing.
-use mathlib.Core.Path.{_≡_, refl, sym, ap, _∙_}
+use mathlib.Core.Path.{_≡_, refl, ap, _∙_}
 use mathlib.Core.List.{List}
 use Prim.Native.Nat.{ℕ, _≤_, _<_, _-_, _+_, _*_, zero-le}
 use native.Mathlib.Omega.{arith}

@@ -5,8 +5,8 @@ use mathlib.Core.Bool.{Bool, true, false, not, _&&_}
 use Prim.Native.Nat.{ℕ, _≤_, _-_, zero-le}
 use native.Mathlib.Omega.{arith}
 use borrow.Author.Needs.{needs}
-use lib.Ieee.{Float, nan, lt}
-use lib.ListN.{length, getD}
+use lib.Ieee.{nan, lt}
+use lib.ListN.{getD}
 use Rattle.game.specs.Finite.{all, below}
 use Rattle.utility.specs.Order.{finite}
 use Rattle.utility.proofs.All.{all-below}

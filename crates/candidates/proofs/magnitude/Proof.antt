@@ -1,5 +1,5 @@
 -- `candidates::magnitude` meets its contract: below 0 the negation is the distance, and else nothing tells the two apart. Assumes nothing.
-use mathlib.Core.Path.{_≡_, sym, ap, _∙_}
+use mathlib.Core.Path.{ap}
 use lib.Ieee.{lt}
 use Rattle.candidates.proofs.Floats.{far-below, far-above}
 use Rattle.candidates.proofs.magnitude.Statement.{statement}

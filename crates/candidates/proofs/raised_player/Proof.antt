@@ -3,11 +3,9 @@
 use mathlib.Core.Path.{_≡_, refl, sym, ap, _∙_}
 use mathlib.Core.List.{List, flatMap}
 use Prim.Native.Nat.{ℕ, _≤_, _-_, zero-le}
-use native.Mathlib.Nat.{le-of-lt}
 use native.Mathlib.Omega.{arith}
 use borrow.Author.Needs.{needs}
 use lib.Ieee.{Float, eq}
-use lib.ListN.{length}
 use Rattle.game.specs.Finite.{below}
 use Rattle.candidates.specs.Checks.{gainsFrom}
 use Rattle.candidates.specs.Inner.{strided, raiseAll}

@@ -1,5 +1,5 @@
 -- `candidates::sums_to_one` meets its contract: the distance of the sum from 1.0 is compared as `distance` is. Assumes nothing.
-use mathlib.Core.Path.{_≡_, ap, _∙_}
+use mathlib.Core.Path.{ap, _∙_}
 use mathlib.Core.Bool.{not}
 use borrow.Author.Needs.{needs}
 use lib.Ieee.{Float, binary64, sub, lt}
