@@ -1,8 +1,9 @@
 //! Times of both sides from one driver: each the best of many runs, taken in turns.
 
+use crate::candidate_cases;
 use crate::cases::{self, Random};
-use crate::document::{CELLS, PLAYERS, STRATEGIES};
-use crate::library::{self, Lists};
+use crate::document::{ACTIONS, CELLS, PLAYERS, STRATEGIES};
+use crate::library::{self, Claim, Lists};
 use crate::rust;
 use std::hint::black_box;
 use std::time::{Duration, Instant};
@@ -43,6 +44,7 @@ pub fn bench() {
         solvers("constant", counts, &vec![1.0; dominated.len()]);
         solvers("dominated", counts, &dominated);
     }
+    candidates(&mut random);
 }
 
 fn finite(name: &str, payoffs: &[f64]) {
@@ -111,6 +113,62 @@ fn solvers(kind: &str, counts: &[usize], payoffs: &[f64]) {
             library::best_responses(counts, payoffs, 0, &opponents, &mut lists)
         },
         || table().map(|matrix| rust::best_responses(&matrix, 0, &opponents)),
+    );
+}
+
+/// The candidate checks at their limit. Payoffs are from 0 up to 1, so that every expectation is within the claim.
+fn candidates(random: &mut Random) {
+    let n = ACTIONS;
+    let mut table = || -> Vec<f64> { (0..n * n).map(|_| random.unit()).collect() };
+    let (mut u1, u2) = (table(), table());
+    let weights = candidate_cases::distribution(random, n * n);
+    gain("random", [&u1, &u2, &weights]);
+    gain("zero weights", [&u1, &u2, &vec![0.0; n * n]]);
+    let [p1, p2] = [(); 2].map(|()| candidate_cases::distribution(random, n));
+    minimax("passes", [&u1, &p1, &p2]);
+    let last = u1[n * n - n..].to_vec();
+    u1[n * n - n..].fill(8.0);
+    minimax("fails at the last row", [&u1, &p1, &p2]);
+    u1[n * n - n..].copy_from_slice(&last);
+    u1[0] = -f64::MAX;
+    u1[n] = f64::MAX;
+    gain("the first is infinite", [&u1, &u2, &weights]);
+}
+
+/// The Rust's rows are there beforehand.
+fn gain(kind: &str, lists: [&[f64]; 3]) {
+    let [u1, u2, weights] = lists.map(|list| rust::rows(list, ACTIONS));
+    row(
+        &format!("gain, {}, {kind}", shape(&[ACTIONS; 2])),
+        || {
+            let lists = black_box(lists);
+            library::verify_correlated_equilibrium_incentives(ACTIONS, ACTIONS, lists)
+        },
+        || rust::incentives(black_box(&u1), black_box(&u2), black_box(&weights)),
+    );
+}
+
+/// The Rust's rows and its record are there beforehand.
+fn minimax(kind: &str, lists: [&[f64]; 3]) {
+    let claim = Claim {
+        value: 0.5,
+        tolerance: 1.0,
+    };
+    let payoffs = rust::rows(lists[0], ACTIONS);
+    let record = rust::record(lists[1], lists[2], claim.value);
+    row(
+        &format!("minimax, {}, {kind}", shape(&[ACTIONS; 2])),
+        || {
+            let (lists, claim) = black_box((lists, claim));
+            library::verify_minimax_residuals(ACTIONS, ACTIONS, lists, claim)
+        },
+        || {
+            rust::minimax(
+                black_box(&payoffs),
+                black_box(&record),
+                black_box(claim.tolerance),
+            )
+        },
     );
 }
 

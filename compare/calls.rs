@@ -1,7 +1,8 @@
 //! The comparison of every call.
 
+use crate::candidates::{self, Candidates};
 use crate::cases::{self, Random};
-use crate::document::{self, CELLS, PLAYERS, STRATEGIES};
+use crate::document::{self, Ground, CELLS, PLAYERS, STRATEGIES};
 use crate::library::{self, Answer, Bits};
 use crate::rust::{self, Judged};
 use crate::solvers;
@@ -42,6 +43,16 @@ pub fn compare() {
     report(solvers.count, &[0, 1, 3, 6, 7], &table);
     report(solvers.equilibria, &[0, 1, 3, 6, 7], &lists);
     report(solvers.dominated, &[0, 1, 3, 6, 7, 8], &lists);
+    let candidates = candidates::candidates();
+    let classes =
+        |grounds: &[Ground]| -> Vec<u32> { grounds.iter().map(|ground| *ground as u32).collect() };
+    let sizes = classes(&[Ground::Sizes]);
+    let shapes = classes(&[Ground::Sizes, Ground::Lengths]);
+    let others: [(Judge, &[u32]); 2] = [(Judge::Outside, &sizes), (Judge::Unasked, &shapes)];
+    report(candidates.gain, &classes(&Candidates::GAIN), &others);
+    let verdict = classes(&Candidates::VERDICT);
+    report(candidates.verdict, &[], &[(Judge::Unasked, &verdict)]);
+    report(candidates.minimax, &classes(&Candidates::MINIMAX), &others);
     println!("compare: {with_rust} cases with the Rust and {with_document} with document 01 alone, 0 differences");
 }
 

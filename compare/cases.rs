@@ -70,6 +70,21 @@ impl Random {
         })
     }
 
+    /// A number from 0 up to 1, which it isn't.
+    pub fn unit(&mut self) -> f64 {
+        (self.word() >> 11) as f64 / (1u64 << 53) as f64
+    }
+
+    /// So many different numbers below a limit.
+    pub fn places(&mut self, number: usize, limit: usize) -> Vec<usize> {
+        let mut places: Vec<usize> = (0..limit).collect();
+        for place in 0..number {
+            places.swap(place, place + self.below(limit - place));
+        }
+        places.truncate(number);
+        places
+    }
+
     pub fn non_finite(&mut self) -> f64 {
         f64::from_bits(match self.below(2) {
             0 => self.pick(&NON_FINITE),

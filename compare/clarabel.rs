@@ -1,4 +1,5 @@
-//! A stand-in for the crate `clarabel`: what the reference names of it, so that the reference compiles as it stands.
+//! A stand-in for the crate `clarabel`: what the reference names of it, so that the reference compiles as it stands, and
+//! a status that no check should read.
 //! No call that is compared reaches a solver, so no body here is ever run.
 
 pub mod algebra {
@@ -28,6 +29,7 @@ pub mod solver {
 
     #[derive(Debug, Clone, Copy, PartialEq)]
     pub enum SolverStatus {
+        Unsolved,
         Solved,
     }
 

@@ -1,7 +1,7 @@
 //! The intended differences of docs/DIFFERENCES.md, each on its smallest input: both sides answer as the page says.
 
-use crate::document::{PLAYERS, STRATEGIES};
-use crate::library::{self, Answer};
+use crate::document::{ACTIONS, PLAYERS, STRATEGIES};
+use crate::library::{self, Answer, Bits, Claim};
 use crate::reference;
 use crate::rust;
 use std::panic::UnwindSafe;
@@ -21,6 +21,8 @@ pub fn differences() {
         largest_choice(),
         no_profile("an equilibrium of too few choices", &[], 11),
         no_profile("an equilibrium past a count", &[1], 12),
+        gain_of_many(),
+        minimax_of_many(),
     ];
     for (name, stands) in listed {
         if !stands {
@@ -97,5 +99,35 @@ fn largest_choice() -> (&'static str, bool) {
     (
         "the largest number as a choice",
         library && more && lent[..2] == [0, 0],
+    )
+}
+
+/// One row too many of one column, all zeros: infinity here, no gain there.
+fn gain_of_many() -> (&'static str, bool) {
+    let zeros = [0.0; ACTIONS + 1];
+    let infinity = Answer::Accepted(Bits::of(f64::INFINITY));
+    let lists = [&zeros[..]; 3];
+    let library = library::verify_correlated_equilibrium_incentives(ACTIONS + 1, 1, lists);
+    let rows = rust::rows(&zeros, 1);
+    let rust = rust::incentives(&rows, &rows, &rows).to_bits() == 0;
+    ("a gain of too many rows", library == infinity && rust)
+}
+
+/// The same table with its first row as player 1's strategy, the value 0 and the tolerance 0: no here, yes there.
+fn minimax_of_many() -> (&'static str, bool) {
+    let zeros = [0.0; ACTIONS + 1];
+    let mut first = zeros;
+    first[0] = 1.0;
+    let claim = Claim {
+        value: 0.0,
+        tolerance: 0.0,
+    };
+    let lists: [&[f64]; 3] = [&zeros, &first, &[1.0]];
+    let library = library::verify_minimax_residuals(ACTIONS + 1, 1, lists, claim);
+    let record = rust::record(&first, &[1.0], claim.value);
+    let rust = rust::minimax(&rust::rows(&zeros, 1), &record, claim.tolerance);
+    (
+        "a minimax check of too many rows",
+        library == Answer::Accepted(false) && rust,
     )
 }

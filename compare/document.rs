@@ -1,9 +1,13 @@
-//! Document 01's limits and refusals, written from its text alone, and the step as the library states it: the judge
-//! where the Rust is none.
+//! Document 01's limits, refusals and candidate checks, written from its text alone, and the step as the library states
+//! it: the judge where the Rust is none.
+
+use crate::library::Claim;
 
 pub const PLAYERS: usize = 8;
 pub const STRATEGIES: usize = 64;
 pub const CELLS: usize = 65_536;
+/// The most rows and the most columns of a candidate check.
+pub const ACTIONS: usize = 64;
 
 pub const NO_PLAYERS: u32 = 1;
 pub const MANY_PLAYERS: u32 = 2;
@@ -125,4 +129,192 @@ pub fn advance(counts: &[usize], profile: &mut [usize; PLAYERS]) -> bool {
         profile[player] = 0;
     }
     false
+}
+
+/// What the answer of a candidate check rests on: the first of these that applies.
+#[derive(Clone, Copy)]
+pub enum Ground {
+    Sizes,
+    Lengths,
+    NonFinite,
+    NegativeTolerance,
+    NegativeWeight,
+    InfiniteGain1,
+    InfiniteGain2,
+    NoGain,
+    Gain1,
+    Gain2,
+    Over,
+    Entry1,
+    Entry2,
+    Sum1,
+    Sum2,
+    Column,
+    Row,
+    InfiniteColumn,
+    InfiniteRow,
+    Yes,
+}
+
+impl Ground {
+    pub const TITLES: [&'static str; Self::Yes as usize + 1] = [
+        "sizes",
+        "lengths",
+        "a number not finite",
+        "a negative tolerance",
+        "a negative weight",
+        "a gain of player 1 not finite",
+        "a gain of player 2 not finite",
+        "no gain",
+        "player 1's gain",
+        "player 2's gain",
+        "over the tolerance",
+        "an entry of p1",
+        "an entry of p2",
+        "the sum of p1",
+        "the sum of p2",
+        "a column",
+        "a row",
+        "a column not finite",
+        "a row not finite",
+        "yes",
+    ];
+}
+
+/// The greatest gain: two tables and weights, flat by rows.
+pub fn incentives(m: usize, n: usize, [u1, u2, weights]: [&[f64]; 3]) -> (Ground, f64) {
+    let infinity = |ground| (ground, f64::INFINITY);
+    let lists = [u1, u2, weights];
+    if wrong_sizes(m, n) {
+        return infinity(Ground::Sizes);
+    }
+    if lists.iter().any(|list| list.len() != m * n) {
+        return infinity(Ground::Lengths);
+    }
+    if lists.iter().any(|list| some_non_finite(list)) {
+        return infinity(Ground::NonFinite);
+    }
+    if weights.iter().any(|weight| *weight < 0.0) {
+        return infinity(Ground::NegativeWeight);
+    }
+    let at = |i: usize, j: usize| i * n + j;
+    let rows = gains(m, n, |i, k, j| {
+        weights[at(i, j)] * (u1[at(k, j)] - u1[at(i, j)])
+    });
+    let columns = gains(n, m, |j, k, i| {
+        weights[at(i, j)] * (u2[at(i, k)] - u2[at(i, j)])
+    });
+    if some_non_finite(&rows) {
+        return infinity(Ground::InfiniteGain1);
+    }
+    if some_non_finite(&columns) {
+        return infinity(Ground::InfiniteGain2);
+    }
+    match [greatest(&rows), greatest(&columns)] {
+        [Some(first), second] if Some(first) >= second => (Ground::Gain1, first),
+        [_, Some(second)] => (Ground::Gain2, second),
+        _ => (Ground::NoGain, 0.0),
+    }
+}
+
+/// For each strategy and each other one in its place: from 0.0, a term for each of the others' choices, ascending.
+fn gains(own: usize, others: usize, term: impl Fn(usize, usize, usize) -> f64) -> Vec<f64> {
+    let pairs = (0..own).flat_map(|from| (0..own).map(move |to| (from, to)));
+    pairs
+        .filter(|(from, to)| from != to)
+        .map(|(from, to)| sum((0..others).map(|other| term(from, to, other))))
+        .collect()
+}
+
+/// The greatest of the gains that are above 0.
+fn greatest(gains: &[f64]) -> Option<f64> {
+    let above = gains.iter().copied().filter(|gain| *gain > 0.0);
+    above.reduce(f64::max)
+}
+
+/// The verdict on an answer of the gain and what that rests on.
+pub fn verdict((ground, gain): (Ground, f64), tolerance: f64) -> (Ground, bool) {
+    if some_non_finite(&[tolerance]) {
+        (Ground::NonFinite, false)
+    } else if tolerance < 0.0 {
+        (Ground::NegativeTolerance, false)
+    } else if gain == f64::INFINITY {
+        (ground, false)
+    } else if gain > tolerance {
+        (Ground::Over, false)
+    } else {
+        (Ground::Yes, true)
+    }
+}
+
+/// The minimax check: a table, flat by rows, and two vectors.
+pub fn minimax(m: usize, n: usize, lists: [&[f64]; 3], claim: Claim) -> (Ground, bool) {
+    let ground = minimax_ground(m, n, lists, claim);
+    (ground, matches!(ground, Ground::Yes))
+}
+
+fn minimax_ground(m: usize, n: usize, lists: [&[f64]; 3], claim: Claim) -> Ground {
+    let Claim { value, tolerance } = claim;
+    if wrong_sizes(m, n) {
+        return Ground::Sizes;
+    }
+    if lists.map(<[f64]>::len) != [m * n, m, n] {
+        return Ground::Lengths;
+    }
+    if lists.iter().any(|list| some_non_finite(list)) || some_non_finite(&[value, tolerance]) {
+        return Ground::NonFinite;
+    }
+    if tolerance < 0.0 {
+        return Ground::NegativeTolerance;
+    }
+    let [payoffs, p1, p2] = lists;
+    let columns = columns(payoffs, p1, n);
+    let rows = rows(payoffs, p2);
+    let below = |entry: &f64| *entry < -tolerance;
+    let far = |vector| off_one(vector) > tolerance;
+    let grounds = [
+        (Ground::Entry1, p1.iter().any(below)),
+        (Ground::Entry2, p2.iter().any(below)),
+        (Ground::Sum1, far(p1)),
+        (Ground::Sum2, far(p2)),
+        (
+            Ground::Column,
+            columns.iter().any(|column| *column < value - tolerance),
+        ),
+        (Ground::Row, rows.iter().any(|row| *row > value + tolerance)),
+        (Ground::InfiniteColumn, some_non_finite(&columns)),
+        (Ground::InfiniteRow, some_non_finite(&rows)),
+        (Ground::Yes, true),
+    ];
+    let first = grounds.into_iter().find(|(_, applies)| *applies);
+    first.unwrap().0
+}
+
+/// How far a vector's sum, less 1.0, is from 0.
+pub fn off_one(vector: &[f64]) -> f64 {
+    (sum(vector.iter().copied()) - 1.0).abs()
+}
+
+/// The expectation of each of n columns.
+pub fn columns(payoffs: &[f64], p1: &[f64], n: usize) -> Vec<f64> {
+    (0..n)
+        .map(|j| sum(p1.iter().enumerate().map(|(i, p)| p * payoffs[i * n + j])))
+        .collect()
+}
+
+/// The expectation of each row.
+pub fn rows(payoffs: &[f64], p2: &[f64]) -> Vec<f64> {
+    payoffs
+        .chunks(p2.len())
+        .map(|row| sum(std::iter::zip(row, p2).map(|(payoff, p)| payoff * p)))
+        .collect()
+}
+
+/// From 0.0, in the given order.
+pub fn sum(terms: impl Iterator<Item = f64>) -> f64 {
+    terms.fold(0.0, |sum, term| sum + term)
+}
+
+fn wrong_sizes(m: usize, n: usize) -> bool {
+    [m, n].iter().any(|size| *size == 0 || *size > ACTIONS)
 }

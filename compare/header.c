@@ -1,5 +1,5 @@
-/* Every call of include/sigvanyor.h from C, on document 01's table of counts 2 3 4 and its first game, and the header's limits: the
- * header fits the archive. */
+/* Every call of include/sigvanyor.h from C, on document 01's table of counts 2 3 4, its first game and candidates for that and for a
+ * game of 1 x 2, and the header's limits: the header fits the archive. */
 #include "sigvanyor.h"
 #include <stdio.h>
 
@@ -27,6 +27,14 @@ static void limits(void) {
     expect("MAX_CELLS", sigvanyor_from_counts(cells, 4, &players, space) == 0);
     cells[3]++;
     expect("MAX_CELLS", sigvanyor_from_counts(cells, 4, &players, space) == 5);
+    const double zeros[SIGVANYOR_MAX_ACTIONS + 1] = {0}, one[SIGVANYOR_MAX_ACTIONS + 1] = {1};
+    const sigvanyor_claim nothing = {0, 0};
+    for (size_t m = SIGVANYOR_MAX_ACTIONS; m <= SIGVANYOR_MAX_ACTIONS + 1; m++) {
+        const bool within = m == SIGVANYOR_MAX_ACTIONS;
+        const double gain = sigvanyor_verify_correlated_equilibrium_incentives(m, 1, zeros, m, zeros, m, zeros, m);
+        expect("MAX_ACTIONS", gain == (within ? 0 : 1.0 / 0.0));
+        expect("MAX_ACTIONS", sigvanyor_verify_minimax_residuals(m, 1, zeros, m, one, m, one, 1, nothing) == within);
+    }
 }
 
 /* Two players with 2 strategies each, each one's first strategy dominated by its second. */
@@ -58,6 +66,27 @@ static void solvers(void) {
     expect("strictly_dominated_strategies", first[0] == 0 && first[1] == 1 && second[0] == 1 && second[1] == 9);
 }
 
+/* The game of `solvers`, with all weight on each one's first strategy and on its second; then a game whose value is 3, for player 2's
+ * first column. */
+static void candidates(void) {
+    const double u1[] = {2, 0, 3, 1}, u2[] = {2, 3, 0, 1}, firsts[] = {1, 0, 0, 0}, seconds[] = {0, 0, 0, 1};
+    const double payoffs[] = {3, 4}, p1[] = {1}, p2[] = {1, 0};
+    const sigvanyor_claim right = {3, 0.5}, high = {4, 0.5}, low = {2, 0.5};
+
+    expect("verify_correlated_equilibrium_incentives",
+           sigvanyor_verify_correlated_equilibrium_incentives(2, 2, u1, 4, u2, 4, firsts, 4) == 1);
+    expect("verify_correlated_equilibrium_incentives",
+           sigvanyor_verify_correlated_equilibrium_incentives(2, 2, u1, 4, u2, 4, seconds, 4) == 0);
+    expect("verify_correlated_equilibrium_incentives",
+           sigvanyor_verify_correlated_equilibrium_incentives(2, 2, u1, 4, u2, 4, firsts, 3) == 1.0 / 0.0);
+    expect("verdict", sigvanyor_verdict(2, 2, u1, 4, u2, 4, firsts, 4, 1.0));
+    expect("verdict", !sigvanyor_verdict(2, 2, u1, 4, u2, 4, firsts, 4, 0.5));
+    expect("verify_minimax_residuals", sigvanyor_verify_minimax_residuals(1, 2, payoffs, 2, p1, 1, p2, 2, right));
+    expect("verify_minimax_residuals", !sigvanyor_verify_minimax_residuals(1, 2, payoffs, 2, p1, 1, p2, 2, high));
+    expect("verify_minimax_residuals", !sigvanyor_verify_minimax_residuals(1, 2, payoffs, 2, p1, 1, p2, 2, low));
+    expect("verify_minimax_residuals", !sigvanyor_verify_minimax_residuals(2, 1, payoffs, 2, p1, 1, p2, 2, right));
+}
+
 int main(void) {
     const size_t counts[] = {2, 3, 4}, profile[] = {1, 2, 3};
     double payoffs[72], utility = -1;
@@ -84,6 +113,7 @@ int main(void) {
     expect("advance_profile", sigvanyor_advance_profile(counts, 3, step));
     expect("advance_profile", step[0] == 1 && step[1] == 0 && step[2] == 0 && step[3] == 7);
     solvers();
+    candidates();
     limits();
     if (!wrong)
         printf("header: every call answers as declared\n");

@@ -112,6 +112,46 @@ extern "C" {
         dominators_len: usize,
         number: *mut usize,
     ) -> u32;
+    fn sigvanyor_verify_correlated_equilibrium_incentives(
+        m: usize,
+        n: usize,
+        u1: *const f64,
+        u1_len: usize,
+        u2: *const f64,
+        u2_len: usize,
+        weights: *const f64,
+        weights_len: usize,
+    ) -> f64;
+    fn sigvanyor_verdict(
+        m: usize,
+        n: usize,
+        u1: *const f64,
+        u1_len: usize,
+        u2: *const f64,
+        u2_len: usize,
+        weights: *const f64,
+        weights_len: usize,
+        tolerance: f64,
+    ) -> u8;
+    fn sigvanyor_verify_minimax_residuals(
+        m: usize,
+        n: usize,
+        payoffs: *const f64,
+        payoffs_len: usize,
+        p1: *const f64,
+        p1_len: usize,
+        p2: *const f64,
+        p2_len: usize,
+        claim: Claim,
+    ) -> u8;
+}
+
+/// What a minimax candidate claims.
+#[repr(C)]
+#[derive(Clone, Copy)]
+pub struct Claim {
+    pub value: f64,
+    pub tolerance: f64,
 }
 
 /// What a side answers: the value, a refusal's number, or what is wrong with the way it answered.
@@ -369,7 +409,8 @@ fn answer_space(status: u32, players: Output<1>, counts: Output<PLAYERS>) -> Ans
     )
 }
 
-/// A call of the library: each slice as a pointer and a length, then the other arguments, then the outputs of a list.
+/// A call of the library: sizes, each slice as a pointer and a length, then the other arguments, then the outputs of a
+/// list.
 macro_rules! call {
     ($name:ident, [$($slice:ident),*] $(, $rest:expr)*; $lists:ident) => {
         call!(
@@ -383,8 +424,8 @@ macro_rules! call {
             $lists.number.place()
         )
     };
-    ($name:ident, [$($slice:ident),*] $(, $rest:expr)*) => {
-        unsafe { $name($($slice.as_ptr(), $slice.len(),)* $($rest),*) }
+    ($name:ident $(($($size:expr),*))?, [$($slice:ident),*] $(, $rest:expr)*) => {
+        unsafe { $name($($($size,)*)? $($slice.as_ptr(), $slice.len(),)* $($rest),*) }
     };
 }
 
@@ -543,4 +584,35 @@ pub fn strictly_dominated_strategies(
         player;
         lists
     )
+}
+
+pub fn verify_correlated_equilibrium_incentives(
+    m: usize,
+    n: usize,
+    [u1, u2, weights]: [&[f64]; 3],
+) -> Answer<Bits> {
+    let gain = call!(
+        sigvanyor_verify_correlated_equilibrium_incentives(m, n),
+        [u1, u2, weights]
+    );
+    Answer::Accepted(Bits::of(gain))
+}
+
+pub fn verdict(m: usize, n: usize, [u1, u2, weights]: [&[f64]; 3], tolerance: f64) -> Answer<bool> {
+    let yes = call!(sigvanyor_verdict(m, n), [u1, u2, weights], tolerance);
+    truth(yes, true, |yes| yes)
+}
+
+pub fn verify_minimax_residuals(
+    m: usize,
+    n: usize,
+    [payoffs, p1, p2]: [&[f64]; 3],
+    claim: Claim,
+) -> Answer<bool> {
+    let yes = call!(
+        sigvanyor_verify_minimax_residuals(m, n),
+        [payoffs, p1, p2],
+        claim
+    );
+    truth(yes, true, |yes| yes)
 }

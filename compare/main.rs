@@ -1,8 +1,12 @@
 //! The library beside the Rust that it was ported from: every call of both on the same inputs, by bits.
-//! Words: none compares, `bench` times, `record FILE` writes the Rust's answers to a sample of inputs.
+//! Words: none compares, `bench` times, `record FILE` writes the Rust's answers to a sample of inputs, and
+//! `record-candidates FILE` those of the candidate checks.
 
 mod bench;
 mod calls;
+mod candidate_cases;
+mod candidate_record;
+mod candidates;
 mod cases;
 mod differences;
 mod document;
@@ -41,8 +45,9 @@ fn main() {
         }
         ["bench"] => bench::bench(),
         ["record", file] => record::record(file),
+        ["record-candidates", file] => candidate_record::record(file),
         _ => {
-            eprintln!("usage: compare [bench | record FILE]");
+            eprintln!("usage: compare [bench | record FILE | record-candidates FILE]");
             std::process::exit(2);
         }
     }

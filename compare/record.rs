@@ -24,15 +24,15 @@ use crate::tally::Judge;
 
 /// The largest count of a recorded shape, below the limit so that the sample outlives a lower one.
 const COUNT: usize = 40;
-/// The most payoffs of a line, and the most elements of an output.
-const ELEMENTS: usize = 64;
-/// The most bytes of the sample: its reader has room for 65,536.
+/// The most elements of a list of a line.
+pub const ELEMENTS: usize = 64;
+/// The most bytes of a sample: its reader has room for 65,536.
 const BYTES: usize = 65_000;
 /// What stands in an output's first element before the call.
 const FILLING: u64 = 7;
 
 pub fn record(file: &str) {
-    let mut lines = Lines(Vec::new());
+    let mut lines = Lines::new();
     let mut random = Random(8);
     utilities(&mut lines, &mut random);
     spaces(&mut lines, &mut random);
@@ -41,23 +41,18 @@ pub fn record(file: &str) {
     games(&mut lines);
     tables(&mut lines, &mut random);
     refusals(&mut lines);
-    let text = lines.0.concat();
-    assert!(text.len() <= BYTES, "the sample has {} bytes", text.len());
-    if let Err(error) = std::fs::write(file, &text) {
-        println!("compare: {file}: {error}");
-        std::process::exit(1);
-    }
-    println!(
-        "compare: {} cases recorded, {} bytes",
-        lines.0.len(),
-        text.len()
-    );
+    lines.write(file);
 }
 
-struct Lines(Vec<String>);
+/// The lines of a sample, each once.
+pub struct Lines(Vec<String>);
 
 impl Lines {
-    fn push(&mut self, numbers: impl IntoIterator<Item = u64>) {
+    pub fn new() -> Self {
+        Self(Vec::new())
+    }
+
+    pub fn push(&mut self, numbers: impl IntoIterator<Item = u64>) {
         let words: Vec<String> = numbers
             .into_iter()
             .map(|number| number.to_string())
@@ -66,6 +61,20 @@ impl Lines {
         if !self.0.contains(&line) {
             self.0.push(line);
         }
+    }
+
+    pub fn write(&self, file: &str) {
+        let text = self.0.concat();
+        assert!(text.len() <= BYTES, "the sample has {} bytes", text.len());
+        if let Err(error) = std::fs::write(file, &text) {
+            println!("compare: {file}: {error}");
+            std::process::exit(1);
+        }
+        println!(
+            "compare: {} cases recorded, {} bytes",
+            self.0.len(),
+            text.len()
+        );
     }
 
     fn utility(&mut self, bits: u64) {
@@ -188,7 +197,7 @@ fn list(numbers: &[usize]) -> impl Iterator<Item = u64> + '_ {
         .map(|number| number as u64)
 }
 
-fn floats(floats: &[f64]) -> impl Iterator<Item = u64> + '_ {
+pub fn floats(floats: &[f64]) -> impl Iterator<Item = u64> + '_ {
     [floats.len() as u64]
         .into_iter()
         .chain(floats.iter().map(|float| float.to_bits()))

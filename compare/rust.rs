@@ -3,10 +3,12 @@
 use crate::document::{self, PLAYERS};
 use crate::library::{Answer, Bits, Listing, Part, Space};
 use crate::reference::{
-    self, BestResponse, BestResponseSolver, DominatedStrategy, NormalFormError, PayoffMatrix,
-    PureNashEquilibrium, PureNashSolver, StrategySpace, StrictDominanceSolver, Utility,
+    self, BestResponse, BestResponseSolver, ClarabelConvexSolver, DominatedStrategy,
+    NormalFormError, PayoffMatrix, PureNashEquilibrium, PureNashSolver, StrategySpace,
+    StrictDominanceSolver, Utility, ZeroSumMinimaxResult,
 };
 use crate::tally::Judge;
+use clarabel::solver::SolverStatus;
 
 /// The number of an error's kind.
 fn number(error: NormalFormError) -> u32 {
@@ -226,4 +228,29 @@ pub fn space_of(space: &StrategySpace) -> Space {
         players: space.player_count(),
         counts,
     }
+}
+
+/// A flat table by its rows of n; the last one is shorter where the length is no multiple of n.
+pub fn rows(flat: &[f64], n: usize) -> Vec<Vec<f64>> {
+    flat.chunks(n).map(<[f64]>::to_vec).collect()
+}
+
+pub fn incentives(u1: &[Vec<f64>], u2: &[Vec<f64>], weights: &[Vec<f64>]) -> f64 {
+    ClarabelConvexSolver::verify_correlated_equilibrium_incentives(u1, u2, weights)
+}
+
+/// The record of a minimax candidate; no check reads its residuals and its status, and they tell of no solution.
+pub fn record(p1: &[f64], p2: &[f64], value: f64) -> ZeroSumMinimaxResult {
+    ZeroSumMinimaxResult {
+        value,
+        p1_strategy: p1.to_vec(),
+        p2_strategy: p2.to_vec(),
+        primal_residual: f64::NAN,
+        dual_residual: f64::INFINITY,
+        status: SolverStatus::Unsolved,
+    }
+}
+
+pub fn minimax(payoffs: &[Vec<f64>], record: &ZeroSumMinimaxResult, tolerance: f64) -> bool {
+    ClarabelConvexSolver::verify_minimax_residuals(payoffs, record, tolerance)
 }

@@ -1,14 +1,31 @@
 //! The count of the cases of each call, and the end of the run at the first difference.
 
-use crate::document;
+use crate::document::{self, Ground};
 use crate::library::Answer;
 use std::fmt::{Debug, Write};
 
-const STATUSES: usize = document::SHORT as usize + 1;
+/// What a case of a status is counted under.
+const STATUSES: [&str; document::SHORT as usize + 1] = [
+    "accepted",
+    "refused by 1:",
+    "refused by 2:",
+    "refused by 3:",
+    "refused by 4:",
+    "refused by 5:",
+    "refused by 6:",
+    "refused by 7:",
+    "refused by 8:",
+    "refused by 9:",
+    "refused by 10:",
+    "refused by 11:",
+    "refused by 12:",
+    "refused by 13:",
+];
 
 /// Who judges a case: the Rust; or document 01 alone, outside the comparison's domain, where a table has both 6 and 7,
 /// which the Rust meets in the other order, so that such inputs stay out of the comparison with it, where an output is
-/// shorter than the list, since the Rust is lent no outputs, and where the Rust panics.
+/// shorter than the list, since the Rust is lent no outputs, where the Rust panics, and where the Rust has no such call
+/// or no way to be told such sizes and lengths.
 #[derive(Clone, Copy, PartialEq)]
 pub enum Judge {
     Rust,
@@ -16,35 +33,69 @@ pub enum Judge {
     SixAndSeven,
     TooShort,
     Panics,
+    Unasked,
 }
 
 impl Judge {
-    const TITLES: [&'static str; 5] = [
+    const TITLES: [&'static str; 6] = [
         "with the Rust",
         "outside the domain",
         "with both 6 and 7",
         "with an output too short",
         "where the Rust panics",
+        "which the Rust cannot be asked",
     ];
 }
 
-/// The cases of one call by their judge and their status.
+/// The cases of one call by their judge and their class: the status, or the ground of a candidate check's answer.
 pub struct Tally {
     name: &'static str,
-    cases: [[usize; STATUSES]; Judge::TITLES.len()],
+    classes: &'static [&'static str],
+    /// How many cases a class has at least, if it has to be met.
+    least: usize,
+    cases: [Vec<usize>; Judge::TITLES.len()],
 }
 
 impl Tally {
+    /// By statuses; one case meets a status.
     pub fn new(name: &'static str) -> Self {
+        Self::of(name, &STATUSES, 1)
+    }
+
+    /// By grounds; so many cases meet a ground.
+    pub fn by_ground(name: &'static str, least: usize) -> Self {
+        Self::of(name, &Ground::TITLES, least)
+    }
+
+    fn of(name: &'static str, classes: &'static [&'static str], least: usize) -> Self {
         Self {
             name,
-            cases: [[0; STATUSES]; Judge::TITLES.len()],
+            classes,
+            least,
+            cases: std::array::from_fn(|_| vec![0; classes.len()]),
         }
     }
 
-    /// Counts a case; where the answers differ, prints it whole and ends the run.
+    /// Counts a case under its status; where the answers differ, prints it whole and ends the run.
     pub fn compare<T: Debug + PartialEq>(
         &mut self,
+        by: Judge,
+        input: impl FnOnce() -> String,
+        judge: Answer<T>,
+        library: Answer<T>,
+    ) {
+        let status = match judge {
+            Answer::Accepted(_) => 0,
+            Answer::Refused(status) => status,
+            Answer::Broken(_) => unreachable!("no judge is broken"),
+        };
+        self.compare_as(status, by, input, judge, library);
+    }
+
+    /// The same under a class that is told.
+    pub fn compare_as<T: Debug + PartialEq>(
+        &mut self,
+        class: u32,
         by: Judge,
         input: impl FnOnce() -> String,
         judge: Answer<T>,
@@ -61,12 +112,7 @@ impl Tally {
             println!("  the library: {library:?}");
             std::process::exit(1);
         }
-        let status = match judge {
-            Answer::Accepted(_) => 0,
-            Answer::Refused(status) => status,
-            Answer::Broken(_) => unreachable!("no judge is broken"),
-        };
-        self.cases[by as usize][status as usize] += 1;
+        self.cases[by as usize][class as usize] += 1;
     }
 
     /// How many cases the Rust judged, and how many document 01 alone.
@@ -75,40 +121,39 @@ impl Tally {
         [total(rust), document.iter().map(|cases| total(cases)).sum()]
     }
 
-    /// The call's line; a status that a call has of a judge and no case met ends the run.
+    /// The call's line; a class that a call has of a judge and too few cases met ends the run.
     pub fn report(&self, rust: &[u32], others: &[(Judge, &[u32])]) {
         let parts: Vec<String> = std::iter::zip(&self.cases, Judge::TITLES)
             .filter(|(cases, _)| total(*cases) > 0)
-            .map(|(cases, title)| format!("{} {title}{}", total(cases), statuses(cases)))
+            .map(|(cases, title)| format!("{} {title}{}", total(cases), self.classes_of(cases)))
             .collect();
         println!("{}: {}", self.name, parts.join("; "));
         for (judge, expected) in others.iter().chain(&[(Judge::Rust, rust)]) {
             let cases = &self.cases[*judge as usize];
-            if let Some(status) = expected.iter().find(|status| cases[**status as usize] == 0) {
-                println!("compare: no case of {} has status {status}", self.name);
+            let few = |class: &&u32| cases[**class as usize] < self.least;
+            if let Some(class) = expected.iter().find(few) {
+                let title = self.classes[*class as usize];
+                println!("compare: {} has too few cases of: {title}", self.name);
                 std::process::exit(1);
             }
         }
+    }
+
+    /// How many cases each class has that was met; nothing where all are of one.
+    fn classes_of(&self, cases: &[usize]) -> String {
+        if cases.contains(&total(cases)) {
+            return String::new();
+        }
+        let met: Vec<String> = std::iter::zip(self.classes, cases)
+            .filter(|(_, cases)| **cases > 0)
+            .map(|(title, cases)| format!("{title} {cases}"))
+            .collect();
+        format!(" ({})", met.join(", "))
     }
 }
 
 fn total(cases: &[usize]) -> usize {
     cases.iter().sum()
-}
-
-/// How many were accepted, and how many both sides refused by each number; nothing where all have one status.
-fn statuses(cases: &[usize]) -> String {
-    if cases.contains(&total(cases)) {
-        return String::new();
-    }
-    let met: Vec<String> = (0..cases.len())
-        .filter(|status| cases[*status] > 0)
-        .map(|status| match status {
-            0 => format!("accepted {}", cases[0]),
-            _ => format!("refused by {status}: {}", cases[status]),
-        })
-        .collect();
-    format!(" ({})", met.join(", "))
 }
 
 /// An input's line: its name, then its numbers.

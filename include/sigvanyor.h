@@ -19,6 +19,10 @@
  * Values come through the pointers at the end of a call's parameters. A refused call writes nothing. Where an output is a slice,
  * elements past those written keep their contents.
  *
+ * The candidate checks are for two players. Tables and weights have m rows, player 1's actions, and n columns, player 2's, 1 to
+ * SIGVANYOR_MAX_ACTIONS each, and are flat by rows: row i and column j stand at i x n + j. What is malformed gets no status but the
+ * answer of a candidate that fails.
+ *
  * Any numbers and lengths may be handed in. A slice is a pointer and the number of its elements. A pointer is aligned for its type,
  * is not null, also where its slice is empty, and points to that many elements, which nobody else writes during the call; an output
  * overlaps nothing else. No call keeps a pointer, allocates or has a state of its own, so any thread may call at any time. The
@@ -39,7 +43,8 @@ extern "C" {
 enum {
     SIGVANYOR_MAX_PLAYERS = 8,
     SIGVANYOR_MAX_STRATEGIES = 64,
-    SIGVANYOR_MAX_CELLS = 65536
+    SIGVANYOR_MAX_CELLS = 65536,
+    SIGVANYOR_MAX_ACTIONS = 64
 };
 
 /* A finite value, bits kept, into `utility`; or 7. */
@@ -100,6 +105,34 @@ uint32_t sigvanyor_equilibria(const size_t *counts, size_t counts_len, const dou
 uint32_t sigvanyor_strictly_dominated_strategies(const size_t *counts, size_t counts_len, const double *payoffs, size_t payoffs_len,
                                                  size_t player, size_t *dominated, size_t dominated_len,
                                                  size_t *dominators, size_t dominators_len, size_t *number);
+
+/* The most that a player gains by another action in place of one, under the weights that someone claims to be a correlated
+ * equilibrium: for each two rows i and k the sum, from 0.0 and over the columns ascending, of weights(i,j) x (u1(k,j) - u1(i,j)),
+ * each operation rounded; for two columns likewise, over the rows ascending, with u2. +0.0 where no gain is above 0. Infinity where a
+ * gain is not finite, m or n is 0 or over SIGVANYOR_MAX_ACTIONS, a length is not m x n, a number is not finite, or a weight is below
+ * 0. */
+double sigvanyor_verify_correlated_equilibrium_incentives(size_t m, size_t n, const double *u1, size_t u1_len,
+                                                          const double *u2, size_t u2_len,
+                                                          const double *weights, size_t weights_len);
+
+/* Whether the tolerance is finite and not below 0, and the answer of the call above is not over it. */
+bool sigvanyor_verdict(size_t m, size_t n, const double *u1, size_t u1_len, const double *u2, size_t u2_len,
+                       const double *weights, size_t weights_len, double tolerance);
+
+/* What a minimax candidate claims: the value of the game to player 1, and how far from right it may be. */
+typedef struct {
+    double value;
+    double tolerance;
+} sigvanyor_claim;
+
+/* Whether p1 and p2 are minimax strategies of player 1's payoffs, up to the tolerance: no entry is below -tolerance; each vector's
+ * sum, left to right, less 1.0, is no further from 0 than the tolerance; no column's expectation under p1 is below value - tolerance,
+ * and no row's under p2 above value + tolerance. Expectations start at 0.0, indices ascending. Each operation is rounded, so that
+ * value - tolerance and value + tolerance may be infinite. No where an expectation is not finite, m or n is 0 or over
+ * SIGVANYOR_MAX_ACTIONS, a length is not m x n, m or n, a number is not finite, or the tolerance is below 0. */
+bool sigvanyor_verify_minimax_residuals(size_t m, size_t n, const double *payoffs, size_t payoffs_len,
+                                        const double *p1, size_t p1_len, const double *p2, size_t p2_len,
+                                        sigvanyor_claim claim);
 
 #ifdef __cplusplus
 }

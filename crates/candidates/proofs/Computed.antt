@@ -6,7 +6,7 @@ use lib.Ieee as Ieee
 use lib.Ieee.{Float, nan, inf, binary64, ofBits}
 use Rattle.utility.specs.Order.{finite}
 use Rattle.candidates.specs.Sums.{zero, one, roundedSum, distance}
-use Rattle.candidates.specs.Checks.{wellFormed, gains, incentives, verdictOf, sumsToOne, distribution, claimed, minimax}
+use Rattle.candidates.specs.Checks.{wellFormed, answerOf, gains, incentives, verdictOf, sumsToOne, distribution, claimed, minimax}
 use Rattle.candidates.specs.declared.Claim.{Claim}
 
 -- ---- some f64s by their bits
@@ -68,6 +68,13 @@ pennies = one ∷ minus-one ∷ minus-one ∷ one ∷ []
 halves : List Float
 halves = half ∷ half ∷ []
 
+-- a payoff at 1 1 alone
+corner : List Float
+corner = zero ∷ zero ∷ zero ∷ one ∷ []
+
+nothing : List Float
+nothing = zero ∷ zero ∷ zero ∷ zero ∷ []
+
 claim : Float → Float → Claim
 claim v t = record { value = v; tolerance = t }
 
@@ -78,10 +85,13 @@ record Computed : Type 0 where
   -- 1 is to be had from 0 0, and nothing from the equilibrium
   gain : incentives 2 2 first second at-start ≡ one
   none : incentives 2 2 first second at-end ≡ zero
+  -- player 1 gains by another row, player 2 by another column, each by the own table
+  by-rows : incentives 2 2 corner nothing (zero ∷ one ∷ zero ∷ zero ∷ []) ≡ one
+  by-columns : incentives 2 2 nothing corner (zero ∷ zero ∷ one ∷ zero ∷ []) ≡ one
   -- zero weights are not skipped: 0 × infinity is no number
   overflow : incentives 2 1 (huge ∷ minus-huge ∷ []) (zero ∷ zero ∷ []) (zero ∷ zero ∷ []) ≡ inf false
   -- −0.0 is a weight, and the answer is +0.0; a negative weight, a wrong length and a NaN are not
-  minus-weight : incentives 1 1 (one ∷ []) (one ∷ []) (minus-zero ∷ []) ≡ zero
+  minus-weight : incentives 2 1 (one ∷ zero ∷ []) (zero ∷ zero ∷ []) (minus-zero ∷ minus-zero ∷ []) ≡ zero
   negative : incentives 1 1 (one ∷ []) (one ∷ []) (minus-one ∷ []) ≡ inf false
   short : incentives 1 2 (one ∷ []) (one ∷ []) (one ∷ []) ≡ inf false
   not-a-number : incentives 1 1 (nan ∷ []) (one ∷ []) (one ∷ []) ≡ inf false
@@ -97,15 +107,19 @@ record Computed : Type 0 where
   other-vector : minimax 2 2 pennies halves (one ∷ zero ∷ []) (claim zero zero) ≡ false
   -- value − tolerance is rounded, here down to the payoff
   rounded : minimax 1 1 (below-one ∷ []) (one ∷ []) (one ∷ []) (claim one small) ≡ true
+  unbounded : minimax 1 1 (huge ∷ []) (one ∷ []) (one ∷ []) (claim huge huge) ≡ true
+  minus-claim : minimax 2 2 pennies halves halves (claim minus-zero minus-zero) ≡ true
   exactly : minimax 1 1 (below-one ∷ []) (one ∷ []) (one ∷ []) (claim one zero) ≡ false
 
 computed : Computed
-unfolding flatMap Ieee.ofBits Ieee.add Ieee.sub Ieee.mul Ieee.neg Ieee.lt finite distance wellFormed gains incentives verdictOf sumsToOne distribution claimed minimax minus-zero minus-one half two three huge minus-huge wide minus-wide below-one small first second at-start at-end pennies halves claim
+unfolding flatMap Ieee.ofBits Ieee.add Ieee.sub Ieee.mul Ieee.neg Ieee.lt finite distance wellFormed answerOf gains incentives verdictOf sumsToOne distribution claimed minimax minus-zero minus-one half two three huge minus-huge wide minus-wide below-one small first second at-start at-end pennies halves corner nothing claim
 computed = record {
   ascending = refl;
   another-order = refl;
   gain = refl;
   none = refl;
+  by-rows = refl;
+  by-columns = refl;
   overflow = refl;
   minus-weight = refl;
   negative = refl;
@@ -120,5 +134,7 @@ computed = record {
   other-value = refl;
   other-vector = refl;
   rounded = refl;
+  unbounded = refl;
+  minus-claim = refl;
   exactly = refl;
 }

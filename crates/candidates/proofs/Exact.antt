@@ -1,8 +1,8 @@
 -- A finite f64 is the one f64 with its sign and its size (`one-value`), and a finite f64 less 0.0 is itself (`less-zero`): what is rounded there
--- is a value already. So a sum that starts at its first number and one that starts at 0.0 are the same, less 1.0 (`sum-start`): they differ
--- only where all numbers are −0.0. Assumes nothing.
+-- is a value already. So a sum that starts at −0.0 and one that starts at 0.0 are the same, less 1.0 (`sum-start`): they differ only where all
+-- numbers are −0.0. Assumes nothing.
 use mathlib.Core.Path.{_≡_, refl, sym, ap, _∙_, subst}
-use mathlib.Core.Logic.{_⊎_, inl, inr, ⊎-elim}
+use mathlib.Core.Logic.{_⊎_, inl, inr}
 use mathlib.Core.Bool.{Bool, true, false, cond, _&&_}
 use mathlib.Core.List.{List, [], _∷_, List·Memᴰ·head as here, List·Memᴰ·tail as there}
 use Prim.Native.Nat.{ℕ, zero, suc, _+_, _*_, _/_, _%_, _-_, _^_, _<_, zero-le, suc-le-suc}
@@ -147,17 +147,6 @@ close-all a b (x ∷ xs) each h =
     let (f, g) = each x (here refl) in
     close-all (add binary64 a x) (add binary64 b x) xs (λ y k. each y (there k)) (close-next a b x f g h)
 
-close-start : (x : Float) → T (fits binary64 x) → T (finite x) → Close (add binary64 nought x) x
-unfolding finite fits ofBits add
-close-start nan h k = absurd k
-close-start (inf s) h k = absurd k
-close-start (fin t (suc m) e) h k = inl (zero-with false t m e h)
-close-start (fin t zero e) h k = subst (λ (y : Float). Close (add binary64 nought y) y) (sym (zero-once t e h)) (start t)
-  where
-    start : (t : Bool) → Close (add binary64 nought (fin t 0 (pos 0))) (fin t 0 (pos 0))
-    start true = inr (refl, refl)
-    start false = inl refl
-
 close-less : (a b : Float) → Close a b → sub binary64 a one ≡ sub binary64 b one
 unfolding sub add ofBits
 close-less a b (inl e) = ap (λ (x : Float). sub binary64 x one) e
@@ -166,8 +155,7 @@ close-less a b (inr (p, q)) = ap (λ (x : Float). sub binary64 x one) p ∙ minu
     minus-one : sub binary64 (fin false 0 (pos 0)) one ≡ sub binary64 (fin true 0 (pos 0)) one
     minus-one = refl
 
-pub sum-start : (x : Float) (xs : List Float) → ((y : Float) → y ∈ x ∷ xs → T (fits binary64 y) × T (finite y))
-    → sub binary64 (roundedSum (x ∷ xs)) one ≡ sub binary64 (addAll x xs) one
-sum-start x xs each =
-    let (f, g) = each x (here refl) in
-    close-less (roundedSum (x ∷ xs)) (addAll x xs) (close-all (add binary64 nought x) x xs (λ y k. each y (there k)) (close-start x f g))
+pub sum-start : (xs : List Float) → ((x : Float) → x ∈ xs → T (fits binary64 x) × T (finite x))
+    → sub binary64 (roundedSum xs) one ≡ sub binary64 (addAll (neg nought) xs) one
+unfolding neg ofBits
+sum-start xs each = close-less (roundedSum xs) (addAll (neg nought) xs) (close-all nought (neg nought) xs each (inr (refl, refl)))

@@ -1,7 +1,7 @@
 -- The expectations that the minimax check compares: columns against a lower bound alone (`columns-are`), rows against an upper one alone
 -- (`rows-are`). Assumes nothing.
 use mathlib.Core.Path.{_≡_, ap, _∙_}
-use mathlib.Core.Bool.{Bool, false}
+use mathlib.Core.Bool.{false}
 use mathlib.Core.List.{List}
 use Prim.Native.Nat.{ℕ}
 use lib.ListN.{getD}
@@ -10,27 +10,22 @@ use Rattle.game.specs.Finite.{all, below}
 use Rattle.utility.proofs.All.{all-cong}
 use Rattle.candidates.specs.Sums.{sumOfProducts}
 use Rattle.candidates.specs.Checks.{column, row, columnHolds, rowHolds}
-use Rattle.candidates.specs.Inner.{strided, between}
+use Rattle.candidates.specs.Inner.{between, within}
 use Rattle.candidates.specs.declared.Claim.{Claim}
 use Rattle.candidates.proofs.Floats.{no-high, no-low}
 use Rattle.candidates.proofs.Shape.{by-rows, by-columns}
-
--- whether all are within the bounds, by the table's strides
-abbrev pub within : List Float → List Float → ℕ → ℕ → ℕ → ℕ → Float → Float → Bool
-within payoffs vector count own others other low high =
-    all (λ t. between low high (sumOfProducts (λ o. getD vector o nan) (strided payoffs own other t) (below others))) (below count)
 
 module _ (m n : ℕ) (payoffs p1 p2 : List Float) (claim : Claim) where
   pub columns-are : within payoffs p1 n 1 m n (sub binary64 (claim .value) (claim .tolerance)) (inf false) ≡ all (columnHolds m n payoffs p1 p2 claim) (below n)
   columns-are =
       let low = sub binary64 (claim .value) (claim .tolerance) in
       ap (λ (f : ℕ → ℕ → Float). all (λ t. between low (inf false) (sumOfProducts (λ o. getD p1 o nan) (f t) (below m))) (below n)) (by-columns n payoffs)
-      ∙ all-cong (λ j. between low (inf false) (column m n payoffs p1 p2 claim j)) (columnHolds m n payoffs p1 p2 claim) (below n)
-      (λ j _. no-high low (column m n payoffs p1 p2 claim j))
+      ∙ all-cong (λ j. between low (inf false) (column m n payoffs p1 j)) (columnHolds m n payoffs p1 p2 claim) (below n)
+      (λ j _. no-high low (column m n payoffs p1 j))
 
   pub rows-are : within payoffs p2 m n n 1 (neg (inf false)) (add binary64 (claim .value) (claim .tolerance)) ≡ all (rowHolds m n payoffs p1 p2 claim) (below m)
   rows-are =
       let high = add binary64 (claim .value) (claim .tolerance) in
       ap (λ (f : ℕ → ℕ → Float). all (λ t. between (neg (inf false)) high (sumOfProducts (λ o. getD p2 o nan) (f t) (below n))) (below m)) (by-rows n payoffs)
-      ∙ all-cong (λ i. between (neg (inf false)) high (row m n payoffs p1 p2 claim i)) (rowHolds m n payoffs p1 p2 claim) (below m)
-      (λ i _. no-low high (row m n payoffs p1 p2 claim i))
+      ∙ all-cong (λ i. between (neg (inf false)) high (row n payoffs p2 i)) (rowHolds m n payoffs p1 p2 claim) (below m)
+      (λ i _. no-low high (row n payoffs p2 i))

@@ -1,16 +1,16 @@
--- The best so far, raised by one gain after the other (`raise-append`, `raise-next`), is infinity from a gain on that isn't finite (`raise-infinity`, `raise-stuck`), and the
--- greatest of all where all are finite (`raise-greatest`). Assumes nothing.
+-- The best so far, raised by one gain after the other (`raise-append`, `raise-next`), is infinity from a gain on that isn't finite
+-- (`raise-infinity`, `raise-stuck`), and the greatest of all where all are finite (`raise-greatest`). Assumes nothing.
 use mathlib.Core.Path.{_≡_, refl, sym, ap, _∙_, subst}
 use mathlib.Core.Bool.{Bool, true, false, cond, _&&_, true≢false}
 use mathlib.Core.Logic.{⊎-elim}
-use mathlib.Core.List.{List, [], _∷_, _++_, flatMap, append-assoc, append-nil}
+use mathlib.Core.List.{List, [], _∷_, _++_, flatMap}
 use Prim.Native.Nat.{ℕ, zero, suc, _+_, _≤_, _<_}
 use native.Mathlib.Nat.{le-of-suc-le-suc, eq-or-lt-of-le}
 use native.Mathlib.Numerals.{add-one}
 use native.Mathlib.Omega.{arith}
 use lib.Ieee.{Float, nan, inf, fin, lt, eq}
 use Rattle.game.specs.Finite.{all, below}
-use Rattle.game.proofs.Finite.{below-last}
+use Rattle.game.proofs.Finite.{below-last, flatMap-last}
 use Rattle.utility.specs.Order.{finite}
 use Rattle.candidates.specs.Checks.{greatestFrom}
 use Rattle.candidates.specs.Inner.{raise, raiseAll}
@@ -41,12 +41,6 @@ raise-greatest best (x ∷ xs) = step (finite x) (raise-greatest (cond (lt best 
     step false h = raise-infinity xs
 
 -- ---- lists of gains, one for each number below n
-
--- the list of one number more stands at the end
-flatMap-last : {A B : Type 0} (g : A → List B) (xs : List A) (y : A) → flatMap g (xs ++ (y ∷ [])) ≡ flatMap g xs ++ g y
-unfolding flatMap
-flatMap-last g [] y = append-nil (g y)
-flatMap-last g (x ∷ xs) y = ap (λ zs. g x ++ zs) (flatMap-last g xs y) ∙ sym (append-assoc (g x) (flatMap g xs) (g y))
 
 module _ (best : Float) (g : ℕ → List Float) where
   pub raise-next : (n : ℕ) → raiseAll best (flatMap g (below (n + 1))) ≡ raiseAll (raiseAll best (flatMap g (below n))) (g n)

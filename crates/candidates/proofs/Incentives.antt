@@ -8,17 +8,16 @@ use lib.Ieee.{Float, inf}
 use Rattle.game.specs.Finite.{all, below}
 use Rattle.utility.specs.Order.{finite}
 use Rattle.candidates.specs.Sums.{zero}
-use Rattle.candidates.specs.Checks.{entry, gainsOf, greatest, wellFormed, gains, incentives}
+use Rattle.candidates.specs.Checks.{entry, gainsOf, greatest, wellFormed, answerOf, gains, incentives}
 use Rattle.candidates.specs.Inner.{strided, raiseAll}
+use Rattle.candidates.proofs.Answer.{answer-not-formed}
 use Rattle.candidates.proofs.Gains.{raise-append, raise-greatest}
 use Rattle.candidates.proofs.Shape.{by-rows, by-columns}
 
 module _ (m n : ℕ) (u1 u2 weights : List Float) where
-  pub not-formed : wellFormed m n u1 u2 weights ≡ false → inf false ≡ incentives m n u1 u2 weights
+  pub not-formed : wellFormed m n u1 u2 weights ≡ false → incentives m n u1 u2 weights ≡ inf false
   unfolding incentives
-  not-formed e =
-      let gs = gains m n u1 u2 weights in
-      sym (ap (λ (b : Bool). cond (b && all finite gs) (greatest gs) (inf false)) e)
+  not-formed = answer-not-formed (wellFormed m n u1 u2 weights) (gains m n u1 u2 weights)
 
   -- raised by gains that are given by the number at each own choice and each of the others'
   abbrev raised : (ℕ → ℕ → Float) → (ℕ → ℕ → Float) → (ℕ → ℕ → Float) → (ℕ → ℕ → Float) → Float
@@ -26,7 +25,7 @@ module _ (m n : ℕ) (u1 u2 weights : List Float) where
 
   pub raised-is : wellFormed m n u1 u2 weights ≡ true
       → raised (strided weights n 1) (strided u1 n 1) (strided weights 1 n) (strided u2 1 n) ≡ incentives m n u1 u2 weights
-  unfolding incentives gains
+  unfolding incentives answerOf gains
   raised-is e =
       let gs = gains m n u1 u2 weights in
       let w : ℕ → ℕ → Float = λ i j. entry n weights i j in

@@ -1,25 +1,22 @@
--- What the answer of the correlated check says: the gains are those of every change (`gains-of-law`), the answer is the greatest of them
--- (`incentives-law`) or infinity (`not-formed`, `not-finite`), and it is +0.0 or above (`at-least-zero`, `not-minus-zero`); an infinite one gets no
--- verdict (`infinite-verdict`). True because f64s that are no NaN are in the order of their ranks. Assumes nothing.
-use mathlib.Core.Path.{_≡_, refl, sym, ap, _∙_, subst}
-use mathlib.Core.Bool.{Bool, true, false, cond, not, _&&_, _||_, and-false, true≢false}
-use mathlib.Core.List.{List, [], _∷_, map, List·Memᴰ·head as here, List·Memᴰ·tail as there, List·Memᴰ·not-nil as not-in-nil, List·Memᴰ·cases-cons as in-cons, Memᴰ·map as to-map, Memᴰ·of-map as of-map, List·Memᴰ·append-cases as in-append}
+-- What the answer of the correlated check says: the gains are those of every change, of both players (`gains-of-law`, `gains-law`), the answer
+-- is the greatest of them (`incentives-law`) or infinity (`not-finite`, `infinity-or`), and it is +0.0 or above (`at-least-zero`, `not-nan`,
+-- `not-minus-zero`); on an infinite one the verdict is no (`infinite-verdict`). True by the laws of `Answer`. Assumes nothing.
+use mathlib.Core.Path.{_≡_, refl, sym, subst}
+use mathlib.Core.Bool.{true, false, not, _&&_, and-false}
+use mathlib.Core.List.{List, map, Memᴰ·map as to-map, Memᴰ·of-map as of-map, List·Memᴰ·append-cases as in-append, Memᴰ·append-left as append-left, Memᴰ·append-right as append-right}
 use mathlib.Core.Logic.{_↔_, _⊎_, inl, inr, ⊎-elim}
-use Prim.Native.Nat.{ℕ, _≤_, _<_}
-use native.Mathlib.Omega.{arith}
-use borrow.Author.Tests.{ltb-true, ltb-false, lt-ltb, le-ltb}
-use lib.Dec.{T, ltb, eqb}
+use Prim.Native.Nat.{ℕ}
+use lib.Dec.{T, eqb}
 use lib.IntN.{pos}
-use lib.Ieee.{Float, nan, inf, fin, binary64, ofBits, add, sub, mul, lt, le, eq, fits}
-use lib.Ieee.Fits.{add-fits}
-use Rattle.game.specs.Finite.{_∈_, all, below, filter}
-use Rattle.game.proofs.Finite.{no-T, either, test-true, test-false, eqb-T, all-T, below-mem, filter-mem, of-flatMap, to-flatMap}
-use Rattle.utility.specs.Order.{finite, rank}
-use Rattle.utility.proofs.Laws.{lt-rank}
-use Rattle.candidates.specs.Sums.{zero, addAll, roundedSum}
-use Rattle.candidates.specs.Checks.{gain, gainsFrom, gainsOf, greatestFrom, greatest, wellFormed, gains, incentives, tolerable, verdictOf}
+use lib.Ieee.{Float, nan, inf, fin, binary64, sub, mul, lt, le, fits}
+use Rattle.game.specs.Finite.{_∈_, below, filter}
+use Rattle.game.proofs.Finite.{no-T, eqb-T, below-mem, filter-mem, of-flatMap, to-flatMap}
+use Rattle.utility.specs.Order.{finite}
+use Rattle.candidates.specs.Sums.{zero}
+use Rattle.candidates.specs.Checks.{entry, gain, gainsFrom, gainsOf, wellFormed, gains, incentives, tolerable, verdictOf}
 use Rattle.candidates.specs.Meaning.{Greatest, Gain}
-use Rattle.candidates.proofs.Incentives.{not-formed}
+use Rattle.candidates.proofs.Sums.{sum-fits}
+use Rattle.candidates.proofs.Answer.{answer-law, answer-not-finite, answer-infinity-or, answer-at-least-zero, answer-not-nan, answer-not-minus-zero}
 
 -- ---- the gains
 
@@ -47,100 +44,12 @@ module _ {I : Type 0} (weight payoff : ℕ → I → Float) (others : List I) (c
         (filter-mem (λ t. not (eqb t s)) (below count) t .1 (below-mem count t .1 (r .change), no-T (eqb t s) .1 (λ q. r .another (eqb-T t s .0 q)))))),
   )
 
--- ---- the greatest
-
--- an f64 that is finite
-abbrev Valued : Float → Type 0
-Valued x = T (fits binary64 x) × T (finite x)
-
--- g is the greatest of a list and b
-record Over (b : Float) (xs : List Float) (g : Float) : Type 0 where
-  valued : Valued g
-  start : rank b ≤ rank g
-  top : (x : Float) → x ∈ xs → rank x ≤ rank g
-  found : (g ≡ b) ⊎ ((g ∈ xs) × (rank b < rank g))
-
-greater : (b x : Float) → Valued b → Valued x → lt b x ≡ ltb (rank b) (rank x)
-greater b x (p, q) (r, s) = lt-rank b x p r q s
-
-over : (b : Float) (xs : List Float) → Valued b → ((x : Float) → x ∈ xs → Valued x) → Over b xs (greatestFrom b xs)
-over b [] v all = record { valued = v; start = omega arith; top = λ x h. absurd (not-in-nil h); found = inl refl }
-over b (y ∷ ys) v all = go (lt b y) (greater b y v (all y (here refl))) (λ c w. over c ys w (λ x h. all x (there h)))
-  where
-    go : (t : Bool) → t ≡ ltb (rank b) (rank y) → ((c : Float) → Valued c → Over c ys (greatestFrom c ys)) → Over b (y ∷ ys) (greatestFrom (cond t y b) ys)
-    go true e rest =
-        let r = rest y (all y (here refl)) in
-        let l : rank b < rank y = ltb-true (rank b) (rank y) (sym e) in
-        record {
-          valued = r .valued;
-          start = omega (arith, r .start);
-          top = λ x h. ⊎-elim (λ (q : x ≡ y). subst (λ (z : Float). rank z ≤ rank (greatestFrom y ys)) (sym q) (r .start)) (r .top x) (in-cons h);
-          found = ⊎-elim (λ (q : greatestFrom y ys ≡ y). inr (here q, omega (arith, r .start))) (λ w. inr (there (w .0), omega (arith, r .start))) (r .found);
-        }
-    go false e rest =
-        let r = rest b v in
-        let l : rank y ≤ rank b = ltb-false (rank b) (rank y) (sym e) in
-        record {
-          valued = r .valued;
-          start = r .start;
-          top = λ x h. ⊎-elim (λ (q : x ≡ y). subst (λ (z : Float). rank z ≤ rank (greatestFrom b ys)) (sym q) (omega (arith, r .start))) (r .top x) (in-cons h);
-          found = ⊎-elim inl (λ w. inr (there (w .0), w .1)) (r .found);
-        }
-
-zero-valued : Valued zero
-unfolding fits finite ofBits
-zero-valued = (tt, tt)
-
-pub greatest-law : (xs : List Float) → ((x : Float) → x ∈ xs → T (fits binary64 x) × T (finite x)) → Greatest xs (greatest xs)
-greatest-law xs all =
-    let r = over zero xs zero-valued all in
-    record {
-      top = λ x h. greater (greatest xs) x (r .valued) (all x h) ∙ le-ltb (rank (greatest xs)) (rank x) (r .top x h);
-      found = ⊎-elim inl (λ w. inr (w .0, greater zero (greatest xs) zero-valued (r .valued) ∙ lt-ltb (rank zero) (rank (greatest xs)) (w .1))) (r .found);
-    }
-
--- ---- the answer
-
-add-all-fits : (s : Float) (xs : List Float) → T (fits binary64 s) → T (fits binary64 (addAll s xs))
-add-all-fits s [] h = h
-add-all-fits s (x ∷ xs) h = add-all-fits (add binary64 s x) xs (add-fits binary64 s x)
-
-pub sum-fits : (xs : List Float) → T (fits binary64 (roundedSum xs))
-sum-fits xs = add-all-fits zero xs (zero-valued .0)
-
-gain-fits : {I : Type 0} (weight payoff : ℕ → I → Float) (others : List I) (count : ℕ) (x : Float)
-    → x ∈ gainsOf weight payoff others count → T (fits binary64 x)
-gain-fits weight payoff others count x h =
-    let g = gains-of-law weight payoff others count x .0 h in
+gain-fits : {I : Type 0} (weight payoff : ℕ → I → Float) (others : List I) (count : ℕ) (x : Float) → Gain weight payoff others count x → T (fits binary64 x)
+gain-fits weight payoff others count x g =
     subst (λ (y : Float). T (fits binary64 y)) (sym (g .is))
     (sum-fits (map (λ o. mul binary64 (weight (g .from) o) (sub binary64 (payoff (g .to) o) (payoff (g .from) o))) others))
 
--- what is at least 0
-zero-zero : le zero zero ≡ true
-unfolding le ofBits
-zero-zero = refl
-
-zero-infinity : le zero (inf false) ≡ true
-unfolding le ofBits
-zero-infinity = refl
-
-above-le : (x : Float) → lt zero x ≡ true → le zero x ≡ true
-unfolding le
-above-le x e = ap (λ (b : Bool). b || eq zero x) e
-
--- the sign of a number
-abbrev signed : Float → Bool
-signed nan = false
-signed (inf s) = s
-signed (fin s m e) = s
-
-zero-sign : signed zero ≡ false
-unfolding ofBits
-zero-sign = refl
-
-not-above : lt zero (fin true 0 (pos 0)) ≡ false
-unfolding lt ofBits
-not-above = refl
+-- ---- the answer
 
 -- no tolerance reaches infinity
 no-tolerance : (tolerance : Float) → (tolerable tolerance && not (lt tolerance (inf false))) ≡ false
@@ -150,53 +59,46 @@ no-tolerance (inf s) = refl
 no-tolerance (fin s m e) = and-false (not (lt (fin s m e) zero))
 
 module _ (m n : ℕ) (u1 u2 weights : List Float) where
-  gains-fit : (x : Float) → x ∈ gains m n u1 u2 weights → T (fits binary64 x)
+  -- a gain is player 1's, by a row in place of another, or player 2's, by a column
+  pub gains-law : (x : Float)
+      → (x ∈ gains m n u1 u2 weights) ↔ (Gain (λ i j. entry n weights i j) (λ i j. entry n u1 i j) (below n) m x ⊎ Gain (λ j i. entry n weights i j) (λ j i. entry n u2 i j) (below m) n x)
   unfolding gains
-  gains-fit x h = ⊎-elim (gain-fits _ _ (below n) m x) (gain-fits _ _ (below m) n x) (in-append _ h)
+  gains-law x =
+      let rows : List Float = gainsOf (λ i j. entry n weights i j) (λ i j. entry n u1 i j) (below n) m in
+      let columns : List Float = gainsOf (λ j i. entry n weights i j) (λ j i. entry n u2 i j) (below m) n in
+      let first = gains-of-law (λ i j. entry n weights i j) (λ i j. entry n u1 i j) (below n) m x in
+      let second = gains-of-law (λ j i. entry n weights i j) (λ j i. entry n u2 i j) (below m) n x in (
+        λ h. ⊎-elim (λ k. inl (first .0 k)) (λ k. inr (second .0 k)) (in-append rows h),
+        ⊎-elim (λ g. append-left columns (first .1 g)) (λ g. append-right rows (second .1 g)),
+      )
 
-  -- where what is handed in is well formed and every gain is finite, the answer is the greatest of them, or +0.0
+  gains-fit : (x : Float) → x ∈ gains m n u1 u2 weights → T (fits binary64 x)
+  gains-fit x h = ⊎-elim (gain-fits _ _ (below n) m x) (gain-fits _ _ (below m) n x) (gains-law x .0 h)
+
   pub incentives-law : T (wellFormed m n u1 u2 weights) → ((x : Float) → x ∈ gains m n u1 u2 weights → T (finite x))
       → Greatest (gains m n u1 u2 weights) (incentives m n u1 u2 weights)
   unfolding incentives
-  incentives-law f each =
-      let gs = gains m n u1 u2 weights in
-      rw (test-true (wellFormed m n u1 u2 weights) f, test-true (all finite gs) (all-T finite gs .1 each))
-      (greatest-law gs (λ x h. (gains-fit x h, each x h)))
+  incentives-law = answer-law (wellFormed m n u1 u2 weights) (gains m n u1 u2 weights) gains-fit
 
-  none-finite : all finite (gains m n u1 u2 weights) ≡ false → incentives m n u1 u2 weights ≡ inf false
-  unfolding incentives
-  none-finite e = rw (e, and-false (wellFormed m n u1 u2 weights))
-
-  -- a gain that isn't finite
   pub not-finite : (x : Float) → x ∈ gains m n u1 u2 weights → finite x ≡ false → incentives m n u1 u2 weights ≡ inf false
-  not-finite x h e =
-      let gs = gains m n u1 u2 weights in none-finite (test-false (all finite gs) (λ t. subst T e (all-T finite gs .0 t x h)))
+  unfolding incentives
+  not-finite = answer-not-finite (wellFormed m n u1 u2 weights) (gains m n u1 u2 weights)
 
-  -- the answer is infinity, +0.0 or above 0
-  three : (incentives m n u1 u2 weights ≡ inf false) ⊎ ((incentives m n u1 u2 weights ≡ zero) ⊎ (lt zero (incentives m n u1 u2 weights) ≡ true))
-  three =
-      let gs = gains m n u1 u2 weights in
-      let f : Bool = wellFormed m n u1 u2 weights in
-      ⊎-elim
-      (λ formed.
-      ⊎-elim (λ each. inr (⊎-elim inl (λ w. inr (w .1)) (incentives-law formed (all-T finite gs .0 each) .found)))
-      (λ no. inl (none-finite (test-false (all finite gs) no)))
-      (either (all finite gs)))
-      (λ no. inl (sym (not-formed m n u1 u2 weights (test-false f no))))
-      (either f)
+  pub infinity-or : (incentives m n u1 u2 weights ≡ inf false) ⊎ (T (wellFormed m n u1 u2 weights) × ((x : Float) → x ∈ gains m n u1 u2 weights → T (finite x)))
+  unfolding incentives
+  infinity-or = answer-infinity-or (wellFormed m n u1 u2 weights) (gains m n u1 u2 weights)
 
-  -- at least 0, and so no NaN
   pub at-least-zero : le zero (incentives m n u1 u2 weights) ≡ true
-  at-least-zero =
-      ⊎-elim (λ e. ap (le zero) e ∙ zero-infinity)
-      (⊎-elim (λ e. ap (le zero) e ∙ zero-zero) (λ e. above-le (incentives m n u1 u2 weights) e))
-      three
+  unfolding incentives
+  at-least-zero = answer-at-least-zero (wellFormed m n u1 u2 weights) (gains m n u1 u2 weights) gains-fit
+
+  pub not-nan : incentives m n u1 u2 weights ≡ nan → ⊥
+  unfolding incentives
+  not-nan = answer-not-nan (wellFormed m n u1 u2 weights) (gains m n u1 u2 weights) gains-fit
 
   pub not-minus-zero : incentives m n u1 u2 weights ≡ fin true 0 (pos 0) → ⊥
-  not-minus-zero z =
-      ⊎-elim (λ e. true≢false (ap signed (sym z ∙ e)))
-      (⊎-elim (λ e. true≢false (ap signed (sym z ∙ e) ∙ zero-sign)) (λ e. true≢false (sym e ∙ ap (lt zero) z ∙ not-above)))
-      three
+  unfolding incentives
+  not-minus-zero = answer-not-minus-zero (wellFormed m n u1 u2 weights) (gains m n u1 u2 weights) gains-fit
 
   -- the verdict on an infinite answer is no
   pub infinite-verdict : (tolerance : Float) → incentives m n u1 u2 weights ≡ inf false → verdictOf m n u1 u2 weights tolerance ≡ false

@@ -1,4 +1,4 @@
--- The laws of this crate's definitions, which its own proofs and later ones cite: `Sums`, `Exact`, `Gains` and `Meaning` are for callers.
+-- The laws of this crate's definitions, which its own proofs and later ones cite: `Sums`, `Exact`, `Answer`, `Laws` and `Meaning` are for callers.
 pub mod Sums
 pub mod Exact
 pub mod Gains
@@ -7,5 +7,6 @@ pub mod Meaning
 pub mod Shape
 pub mod Incentives
 pub mod Expectations
+pub mod Answer
 pub mod Laws
 pub mod Computed

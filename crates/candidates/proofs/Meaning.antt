@@ -46,10 +46,6 @@ sized-law m n =
       λ r. from (((r .rows, r .few-rows), r .columns), r .few-columns),
     )
 
--- the test of a length, and that of its numbers
-long-T : (xs : List Float) (number : ℕ) → T (eqb (length xs) number) ↔ (length xs ≡ number)
-long-T xs number = eqb-T (length xs) number
-
 pub tolerable-law : (tolerance : Float) → T (tolerable tolerance) ↔ Tolerable tolerance
 tolerable-law t =
     let (to, from) = both (finite t) (not (lt t zero)) Iff·rfl (none-T (lt t zero)) in
@@ -66,7 +62,7 @@ well-formed-law m n u1 u2 weights =
     let e : Bool = all finite u2 in
     let f : Bool = all finite weights in
     let g : Bool = all (λ w. not (lt w zero)) weights in
-    let lengths = both (s && a && b) c (both (s && a) b (both s a (sized-law m n) (long-T u1 (m * n))) (long-T u2 (m * n))) (long-T weights (m * n)) in
+    let lengths = both (s && a && b) c (both (s && a) b (both s a (sized-law m n) (eqb-T (length u1) (m * n))) (eqb-T (length u2) (m * n))) (eqb-T (length weights) (m * n)) in
     let numbers = both (s && a && b && c && d && e) f (both (s && a && b && c && d) e (both (s && a && b && c) d lengths (all-law finite u1)) (all-law finite u2)) (all-law finite weights) in
     let (to, from) = both (s && a && b && c && d && e && f) g numbers (none-below-law zero weights) in (
       λ h.
@@ -95,7 +91,7 @@ claimed-law m n payoffs p1 p2 claim =
     let f : Bool = all finite p2 in
     let g : Bool = finite (claim .value) in
     let t : Bool = tolerable (claim .tolerance) in
-    let lengths = both (s && a && b) c (both (s && a) b (both s a (sized-law m n) (long-T payoffs (m * n))) (long-T p1 m)) (long-T p2 n) in
+    let lengths = both (s && a && b) c (both (s && a) b (both s a (sized-law m n) (eqb-T (length payoffs) (m * n))) (eqb-T (length p1) m)) (eqb-T (length p2) n) in
     let numbers = both (s && a && b && c && d && e) f (both (s && a && b && c && d) e (both (s && a && b && c) d lengths (all-law finite payoffs)) (all-law finite p1)) (all-law finite p2) in
     let (to, from) = both (s && a && b && c && d && e && f && g) t (both (s && a && b && c && d && e && f) g numbers Iff·rfl) (tolerable-law (claim .tolerance)) in (
       λ h.
@@ -137,8 +133,8 @@ minimax-law m n payoffs p1 p2 claim =
     let c : Bool = distribution p2 t in
     let f = columnHolds m n payoffs p1 p2 claim in
     let g = rowHolds m n payoffs p1 p2 claim in
-    let column-T : (j : ℕ) → T (f j) ↔ _ = λ j. both (finite (column m n payoffs p1 p2 claim j)) (not (lt (column m n payoffs p1 p2 claim j) (sub binary64 (claim .value) t))) Iff·rfl (none-T (lt (column m n payoffs p1 p2 claim j) (sub binary64 (claim .value) t))) in
-    let row-T : (i : ℕ) → T (g i) ↔ _ = λ i. both (finite (row m n payoffs p1 p2 claim i)) (not (lt (add binary64 (claim .value) t) (row m n payoffs p1 p2 claim i))) Iff·rfl (none-T (lt (add binary64 (claim .value) t) (row m n payoffs p1 p2 claim i))) in
+    let column-T : (j : ℕ) → T (f j) ↔ _ = λ j. both (finite (column m n payoffs p1 j)) (not (lt (column m n payoffs p1 j) (sub binary64 (claim .value) t))) Iff·rfl (none-T (lt (column m n payoffs p1 j) (sub binary64 (claim .value) t))) in
+    let row-T : (i : ℕ) → T (g i) ↔ _ = λ i. both (finite (row n payoffs p2 i)) (not (lt (add binary64 (claim .value) t) (row n payoffs p2 i))) Iff·rfl (none-T (lt (add binary64 (claim .value) t) (row n payoffs p2 i))) in
     let vectors = both (a && b) c (both a b (claimed-law m n payoffs p1 p2 claim) (distribution-law p1 t)) (distribution-law p2 t) in
     let (to, from) = both (a && b && c && all f (below n)) (all g (below m)) (both (a && b && c) (all f (below n)) vectors (below-law f n)) (below-law g m) in (
       λ h.

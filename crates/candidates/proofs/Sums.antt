@@ -1,22 +1,23 @@
--- Sums in a given order: what comes last is added last (`sum-last`, `sum-next`, `products-last`, `products-next`), only the terms at the
--- indices of the list count (`products-cong`), and the factors may change places (`products-swap`). And sums of products taken side by side, each in its order: at the start and one term on
--- (`side-start`, `side-next`), true because a turn adds its term to each of them (`added-next`, `added-at`).
--- Assumes nothing.
-use mathlib.Core.Path.{_≡_, refl, sym, ap, _∙_}
+-- Sums in a given order: what comes last is added last (`sum-last`, `sum-next`, `products-last`), only the terms at the indices of the list
+-- count (`products-cong`), the indices may be mapped (`products-map`) and the factors may change places (`products-swap`). And sums of
+-- products taken side by side, each in its order: at the start and one term on (`side-start`, `side-next`, `side-below`), true because a turn
+-- adds its term to each of them (`added-next`, `added-at`). Assumes nothing.
+use mathlib.Core.Path.{_≡_, refl, sym, ap, _∙_, subst}
 use mathlib.Core.Bool.{Bool, true, false, cond}
-use mathlib.Core.List.{List, [], _∷_, _++_, map, map-append}
+use mathlib.Core.List.{List, [], _∷_, _++_, map, map-append, map-map}
 use Prim.Native.Nat.{ℕ, zero, suc, _+_, _*_, _≤_, _<_, zero-le, suc-le-suc}
 use native.Mathlib.Nat.{not-suc-le-zero, le-of-suc-le-suc, mul-comm}
 use native.Mathlib.Numerals.{add-one}
 use native.Mathlib.Omega.{arith}
 use lib.ListN.{length, getD, set, take, replicate, length-replicate, getD-replicate}
 use lib.Seq.{take-suc}
-use lib.Dec.{eqb}
-use lib.Ieee.{Float, nan, inf, fin, binary64, unlike, up, down, round, add, mul}
+use lib.Dec.{T, eqb}
+use lib.Ieee.{Float, nan, inf, fin, binary64, unlike, up, down, round, add, mul, fits}
+use lib.Ieee.Fits.{add-fits}
+use lib.Ieee.Bits.{ofBits-fits}
 use Rattle.game.specs.Finite.{below, _∈_}
 use Rattle.game.proofs.Finite.{below-last, map-cong}
 use Rattle.candidates.specs.Sums.{zero as nought, addAll, roundedSum, sumOfProducts}
-use Rattle.candidates.specs.Checks.{maxActions}
 use Rattle.candidates.specs.Inner.{added}
 
 -- ---- a sum
@@ -33,6 +34,14 @@ pub sum-next : (xs : List Float) (i : ℕ) → i < length xs
 sum-next xs i h =
     ap (λ (n : ℕ). roundedSum (take n xs)) (add-one i) ∙ ap roundedSum (take-suc xs i nan h) ∙ sum-last (take i xs) (getD xs i nan)
 
+-- a sum is an f64
+pub sum-fits : (xs : List Float) → T (fits binary64 (roundedSum xs))
+sum-fits = all-fit nought (ofBits-fits binary64 0)
+  where
+    all-fit : (s : Float) → T (fits binary64 s) → (xs : List Float) → T (fits binary64 (addAll s xs))
+    all-fit s h [] = h
+    all-fit s h (x ∷ xs) = all-fit (add binary64 s x) (add-fits binary64 s x) xs
+
 -- ---- a sum of products
 
 module _ {I : Type 0} (a b : I → Float) where
@@ -41,17 +50,16 @@ module _ {I : Type 0} (a b : I → Float) where
       ap roundedSum (map-append (λ i. mul binary64 (a i) (b i)) is (i ∷ []))
       ∙ sum-last (map (λ i. mul binary64 (a i) (b i)) is) (mul binary64 (a i) (b i))
 
-pub products-next : (a b : ℕ → Float) (n : ℕ)
-    → sumOfProducts a b (below (n + 1)) ≡ add binary64 (sumOfProducts a b (below n)) (mul binary64 (a n) (b n))
-products-next a b n =
-    ap (λ (m : ℕ). sumOfProducts a b (below m)) (add-one n) ∙ ap (sumOfProducts a b) (below-last n) ∙ products-last a b (below n) n
-
 pub products-cong : {I : Type 0} (a b c d : I → Float) (is : List I) → ((i : I) → i ∈ is → (a i ≡ c i) × (b i ≡ d i))
     → sumOfProducts a b is ≡ sumOfProducts c d is
 products-cong a b c d is h =
     ap roundedSum
     (map-cong (λ i. mul binary64 (a i) (b i)) (λ i. mul binary64 (c i) (d i)) is
     (λ i k. ap (λ (x : Float). mul binary64 x (b i)) (h i k .0) ∙ ap (mul binary64 (c i)) (h i k .1)))
+
+-- an index map
+pub products-map : {I J : Type 0} (f : J → I) (a b : I → Float) (js : List J) → sumOfProducts a b (map f js) ≡ sumOfProducts (λ j. a (f j)) (λ j. b (f j)) js
+products-map f a b js = ap roundedSum (map-map (λ i. mul binary64 (a i) (b i)) f js)
 
 -- the order of the factors does not matter
 unlike-comm : (s t : Bool) → unlike s t ≡ unlike t s
@@ -115,20 +123,27 @@ added-next n f xs h = go n f xs h ∙ ap (λ (m : ℕ). added m f xs) (one n)
     go zero f (x ∷ xs) h = refl
     go (suc n) f (x ∷ xs) h = ap {B = List Float} (λ ys. add binary64 x (f 0) ∷ ys) (go n (λ t. f (suc t)) xs (le-of-suc-le-suc h))
 
--- the sums a(o) × b(t, o) for o below n, side by side: that of t at place t, for t below `count`
-abbrev pub SideBySide : ℕ → (ℕ → Float) → (ℕ → ℕ → Float) → ℕ → List Float → Type 0
-SideBySide count a b n xs = (length xs ≡ maxActions) × ((t : ℕ) → t < count → getD xs t nan ≡ sumOfProducts a (b t) (below n))
+-- the sums of a(i) × b(t, i) over a list of indices, side by side in `size` places: that of t at place t, for t below `count`
+abbrev pub SideBySide : {I : Type 0} → ℕ → ℕ → (I → Float) → (ℕ → I → Float) → List I → List Float → Type 0
+SideBySide size count a b is xs = (length xs ≡ size) × ((t : ℕ) → t < count → getD xs t nan ≡ sumOfProducts a (b t) is)
 
-module _ (count : ℕ) (few : count ≤ maxActions) (a : ℕ → Float) (b : ℕ → ℕ → Float) where
-  pub side-start : SideBySide count a b 0 (replicate maxActions nought)
-  side-start = (length-replicate maxActions nought, λ t h. getD-replicate maxActions t nought nan (omega arith))
+module _ {I : Type 0} (size count : ℕ) (few : count ≤ size) (a : I → Float) (b : ℕ → I → Float) where
+  pub side-start : SideBySide size count a b [] (replicate size nought)
+  side-start = (length-replicate size nought, λ t h. getD-replicate size t nought nan (omega arith))
 
-  pub side-next : (n : ℕ) (xs : List Float) → SideBySide count a b n xs
-      → SideBySide count a b (n + 1) (added count (λ t. mul binary64 (a n) (b t n)) xs)
-  side-next n xs (long, are) = (
-    added-length count (λ t. mul binary64 (a n) (b t n)) xs ∙ long,
+  pub side-next : (is : List I) (i : I) (xs : List Float) → SideBySide size count a b is xs
+      → SideBySide size count a b (is ++ (i ∷ [])) (added count (λ t. mul binary64 (a i) (b t i)) xs)
+  side-next is i xs (long, are) = (
+    added-length count (λ t. mul binary64 (a i) (b t i)) xs ∙ long,
     λ t h.
-        added-at count (λ t. mul binary64 (a n) (b t n)) xs t h (omega (arith, long))
-        ∙ ap (λ (s : Float). add binary64 s (mul binary64 (a n) (b t n))) (are t h)
-        ∙ sym (products-next a (b t) n),
+        added-at count (λ t. mul binary64 (a i) (b t i)) xs t h (omega (arith, long))
+        ∙ ap (λ (s : Float). add binary64 s (mul binary64 (a i) (b t i))) (are t h)
+        ∙ sym (products-last a (b t) is i),
   )
+
+-- the next of the numbers below a bound
+pub side-below : (size count : ℕ) (few : count ≤ size) (a : ℕ → Float) (b : ℕ → ℕ → Float) (n : ℕ) (xs : List Float)
+    → SideBySide size count a b (below n) xs → SideBySide size count a b (below (n + 1)) (added count (λ t. mul binary64 (a n) (b t n)) xs)
+side-below size count few a b n xs h =
+    subst (λ (is : List ℕ). SideBySide size count a b is (added count (λ t. mul binary64 (a n) (b t n)) xs)) (sym (ap below (add-one n) ∙ below-last n))
+    (side-next size count few a b (below n) n xs h)

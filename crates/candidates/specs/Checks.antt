@@ -46,6 +46,10 @@ greatestFrom b (x ∷ xs) = greatestFrom (cond (lt b x) x b) xs
 abbrev pub greatest : List Float → Float
 greatest = greatestFrom zero
 
+-- infinity for what is not well formed and for a gain that isn't finite, else the greatest gain, or +0.0 when none is above 0
+unfoldable pub answerOf : Bool → List Float → Float
+answerOf formed gs = cond (formed && all finite gs) (greatest gs) (inf false)
+
 module _ (m n : ℕ) (u1 u2 weights : List Float) where
   -- no size zero or over 64, no length other than m × n, no non-finite number and no negative weight
   unfoldable pub wellFormed : Bool
@@ -65,9 +69,9 @@ module _ (m n : ℕ) (u1 u2 weights : List Float) where
       gainsOf (λ i j. entry n weights i j) (λ i j. entry n u1 i j) (below n) m
       ++ gainsOf (λ j i. entry n weights i j) (λ j i. entry n u2 i j) (below m) n
 
-  -- infinity for what is not well formed and for a gain that isn't finite, else the greatest gain, or +0.0 when none is above 0
+  -- the answer of the correlated check
   unfoldable pub incentives : Float
-  incentives = cond (wellFormed && all finite gains) (greatest gains) (inf false)
+  incentives = answerOf wellFormed gains
 
 -- ---- the verdict, document 01's term
 
@@ -89,6 +93,14 @@ sumsToOne p tolerance = not (lt tolerance (distance (sub binary64 (roundedSum p)
 unfoldable pub distribution : List Float → Float → Bool
 distribution p tolerance = all (λ x. not (lt x (neg tolerance))) p && sumsToOne p tolerance
 
+-- the expectation of column j, under player 1's vector
+abbrev pub column : ℕ → ℕ → List Float → List Float → ℕ → Float
+column m n payoffs p1 j = sumOfProducts (λ i. getD p1 i nan) (λ i. entry n payoffs i j) (below m)
+
+-- the expectation of row i, under player 2's vector
+abbrev pub row : ℕ → List Float → List Float → ℕ → Float
+row n payoffs p2 i = sumOfProducts (λ j. getD p2 j nan) (λ j. entry n payoffs i j) (below n)
+
 module _ (m n : ℕ) (payoffs p1 p2 : List Float) (claim : Claim) where
   -- right sizes and lengths, finite numbers, and no negative tolerance
   unfoldable pub claimed : Bool
@@ -103,21 +115,13 @@ module _ (m n : ℕ) (payoffs p1 p2 : List Float) (claim : Claim) where
       && finite (claim .value)
       && tolerable (claim .tolerance)
 
-  -- the expectation of column j, under player 1's vector
-  abbrev pub column : ℕ → Float
-  column j = sumOfProducts (λ i. getD p1 i nan) (λ i. entry n payoffs i j) (below m)
-
-  -- the expectation of row i, under player 2's vector
-  abbrev pub row : ℕ → Float
-  row i = sumOfProducts (λ j. getD p2 j nan) (λ j. entry n payoffs i j) (below n)
-
   -- column j's expectation is finite and not below value − tolerance
   abbrev pub columnHolds : ℕ → Bool
-  columnHolds j = finite (column j) && not (lt (column j) (sub binary64 (claim .value) (claim .tolerance)))
+  columnHolds j = finite (column m n payoffs p1 j) && not (lt (column m n payoffs p1 j) (sub binary64 (claim .value) (claim .tolerance)))
 
   -- row i's expectation is finite and not above value + tolerance
   abbrev pub rowHolds : ℕ → Bool
-  rowHolds i = finite (row i) && not (lt (add binary64 (claim .value) (claim .tolerance)) (row i))
+  rowHolds i = finite (row n payoffs p2 i) && not (lt (add binary64 (claim .value) (claim .tolerance)) (row n payoffs p2 i))
 
   -- yes where nothing makes it no
   unfoldable pub minimax : Bool

@@ -5,7 +5,9 @@ use mathlib.Core.List.{List, [], _∷_}
 use Prim.Native.Nat.{ℕ, zero, suc, _+_, _*_, _<_}
 use lib.ListN.{length, getD}
 use lib.Ieee.{Float, nan, inf, binary64, add, lt}
+use Rattle.game.specs.Finite.{all, below}
 use Rattle.utility.specs.Order.{finite}
+use Rattle.candidates.specs.Sums.{sumOfProducts}
 
 -- the number at own choice s and others' choice o
 abbrev pub strided : List Float → ℕ → ℕ → ℕ → ℕ → Float
@@ -33,3 +35,8 @@ raiseAll best (x ∷ xs) = raiseAll (raise best x) xs
 -- a finite number, not below `low` and not above `high`
 abbrev pub between : Float → Float → Float → Bool
 between low high x = finite x && not (lt x low) && not (lt high x)
+
+-- the expectations of all own choices, under a vector over the others' choices, are such numbers
+abbrev pub within : List Float → List Float → ℕ → ℕ → ℕ → ℕ → Float → Float → Bool
+within payoffs vector count own others other low high =
+    all (λ t. between low high (sumOfProducts (λ o. getD vector o nan) (strided payoffs own other t) (below others))) (below count)

@@ -73,6 +73,6 @@ pub record Minimax (m n : ℕ) (payoffs p1 p2 : List Float) (claim : Claim) : Ty
   pub first : Distribution p1 (claim .tolerance)
   pub second : Distribution p2 (claim .tolerance)
   pub columns : (j : ℕ) → j < n
-      → T (finite (column m n payoffs p1 p2 claim j)) × (lt (column m n payoffs p1 p2 claim j) (sub binary64 (claim .value) (claim .tolerance)) ≡ false)
+      → T (finite (column m n payoffs p1 j)) × (lt (column m n payoffs p1 j) (sub binary64 (claim .value) (claim .tolerance)) ≡ false)
   pub rows : (i : ℕ) → i < m
-      → T (finite (row m n payoffs p1 p2 claim i)) × (lt (add binary64 (claim .value) (claim .tolerance)) (row m n payoffs p1 p2 claim i) ≡ false)
+      → T (finite (row n payoffs p2 i)) × (lt (add binary64 (claim .value) (claim .tolerance)) (row n payoffs p2 i) ≡ false)

@@ -13,9 +13,9 @@ ghost use lib.ListN.{length, getD};
 ghost use lib.Ieee.{Float, nan, inf, binary64, sub, mul, lt};
 ghost use Rattle.game.specs.Finite.{all, below, filter};
 ghost use Rattle.utility.specs.Order.{finite};
-ghost use Rattle.candidates.specs.Sums.{roundedSum, sumOfProducts, distance};
+ghost use Rattle.candidates.specs.Sums.{roundedSum, distance};
 ghost use Rattle.candidates.specs.Checks.{maxActions, sized, gainsFrom, gainsOf, wellFormed, incentives, tolerable, verdictOf, sumsToOne, distribution, claimed, minimax};
-ghost use Rattle.candidates.specs.Inner.{strided, Spans, added, raise, raiseAll, between};
+ghost use Rattle.candidates.specs.Inner.{strided, Spans, added, raise, raiseAll, between, within};
 
 // The most rows and the most columns: the candidate checks' own limit.
 pub const MAX_ACTIONS: usize = 64;
@@ -313,7 +313,7 @@ fn expectations_between(
     requires { ⌜ others ≤ length (now vector) ⌝ }
     requires { ⌜ all finite (now payoffs) ≡ true ⌝ }
     requires { ⌜ Spans (now payoffs) own other count others ⌝ }
-    ensures { λ r. ⌜ r ≡ all (λ t. between low high (sumOfProducts (λ o. getD (now (vector .entry)) o nan) (strided (now (payoffs .entry)) own other t) (below others))) (below count) ⌝ }
+    ensures { λ r. ⌜ r ≡ within (now (payoffs .entry)) (now (vector .entry)) count own others other low high ⌝ }
 {
     let mut sums = [0.0; MAX_ACTIONS];
     let mut o = 0;

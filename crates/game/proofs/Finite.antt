@@ -1,7 +1,7 @@
 -- What the tests of specs/Finite say, as propositions, and what the members and the length of each list are.
-use mathlib.Core.Path.{_≡_, refl, ap, _∙_}
+use mathlib.Core.Path.{_≡_, refl, sym, ap, _∙_}
 use mathlib.Core.Bool.{Bool, true, false, not, cond, _&&_}
-use mathlib.Core.List.{List, [], _∷_, _++_, map, flatMap, map-map, map-append, append-nil, List·Memᴰ·head as here, List·Memᴰ·tail as there, List·Memᴰ·not-nil as not-in-nil, List·Memᴰ·cases-cons as in-cons, List·Memᴰ·append-cases as in-append, List·Memᴰ·eq-of-singleton as in-singleton, Memᴰ·append-left as append-left, Memᴰ·append-right as append-right, Memᴰ·map as to-map, Memᴰ·of-map as of-map}
+use mathlib.Core.List.{List, [], _∷_, _++_, map, flatMap, map-map, map-append, append-nil, append-assoc, List·Memᴰ·head as here, List·Memᴰ·tail as there, List·Memᴰ·not-nil as not-in-nil, List·Memᴰ·cases-cons as in-cons, List·Memᴰ·append-cases as in-append, List·Memᴰ·eq-of-singleton as in-singleton, Memᴰ·append-left as append-left, Memᴰ·append-right as append-right, Memᴰ·map as to-map, Memᴰ·of-map as of-map}
 use mathlib.Core.Logic.{_↔_, _⊎_, inl, inr, ⊎-elim, Iff·rfl}
 use Prim.Native.Nat.{ℕ, zero, suc, _+_, _*_, _≤_, _<_}
 use native.Mathlib.Nat.{not-suc-le-zero, le-of-suc-le-suc, eq-or-lt-of-le, zero-mul, suc-mul, add-comm}
@@ -195,6 +195,12 @@ module _ {A B : Type 0} (f : A → List B) where
   to-flatMap [] a b h k = absurd (not-in-nil h)
   to-flatMap (x ∷ xs) a b h k =
       ⊎-elim (λ (e : a ≡ x). append-left (flatMap f xs) (rw e at k)) (λ l. append-right (f x) (to-flatMap xs a b l k)) (in-cons h)
+
+  -- one more list stands at the end
+  pub flatMap-last : (xs : List A) (y : A) → flatMap f (xs ++ (y ∷ [])) ≡ flatMap f xs ++ f y
+  unfolding flatMap
+  flatMap-last [] y = append-nil (f y)
+  flatMap-last (x ∷ xs) y = ap (λ l. f x ++ l) (flatMap-last xs y) ∙ sym (append-assoc (f x) (flatMap f xs) (f y))
 
   pub length-flatMap : (xs : List A) → length (flatMap f xs) ≡ sum (map (λ a. length (f a)) xs)
   unfolding flatMap

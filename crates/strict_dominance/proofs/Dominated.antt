@@ -1,6 +1,6 @@
 -- How a walk up the strategies collects the dominance list, and that the list fits where it is collected. Assumes nothing.
 use mathlib.Core.Path.{_≡_, sym, ap, _∙_}
-use mathlib.Core.List.{List, [], _∷_, _++_, map, flatMap, append-nil, append-assoc, map-append}
+use mathlib.Core.List.{List, [], _∷_, _++_, map, flatMap, append-nil, map-append}
 use mathlib.Core.Option.{Option, none, some}
 use Prim.Native.Nat.{ℕ, zero, suc, _+_, _≤_, _<_}
 use native.Mathlib.Omega.{arith}
@@ -10,7 +10,7 @@ use lib.Ieee.{Float}
 use Rattle.game.specs.Finite.{below}
 use Rattle.game.specs.Game.{Game, Marks, whole}
 use Rattle.game.specs.Solution.{dominator}
-use Rattle.game.proofs.Finite.{below-last}
+use Rattle.game.proofs.Finite.{below-last, flatMap-last}
 use Rattle.table.specs.Limits.{maxStrategies}
 use Rattle.table.specs.Table.{tableGame}
 use Rattle.table.specs.Meaning.{Shape}
@@ -20,11 +20,6 @@ use Rattle.table.proofs.Outputs.{over-length, over-more}
 
 -- ---- one strategy after the other
 
-flatMap-more : {A B : Type 0} (f : A → List B) (xs : List A) (x : A) → flatMap f (xs ++ (x ∷ [])) ≡ flatMap f xs ++ f x
-unfolding flatMap
-flatMap-more f [] x = append-nil (f x)
-flatMap-more f (y ∷ ys) x = ap (λ l. f y ++ l) (flatMap-more f ys x) ∙ sym (append-assoc (f y) (flatMap f ys) (f x))
-
 module _ (g : Game) (m : Marks) (p : ℕ) where
   -- the dominated among the strategies below n, each with its lowest dominator
   abbrev pub dominatedBelow : ℕ → List DominatedStrategy
@@ -32,7 +27,7 @@ module _ (g : Game) (m : Marks) (p : ℕ) where
 
   pub dominated-more : (n : ℕ) → dominatedBelow (suc n) ≡ dominatedBelow n ++ beside n (dominator g m p n)
   dominated-more n =
-      let f : ℕ → List DominatedStrategy = λ s. beside s (dominator g m p s) in ap (flatMap f) (below-last n) ∙ flatMap-more f (below n) n
+      let f : ℕ → List DominatedStrategy = λ s. beside s (dominator g m p s) in ap (flatMap f) (below-last n) ∙ flatMap-last f (below n) n
 
   -- no more than there are strategies
   pub dominated-few : (n : ℕ) → length (dominatedBelow n) ≤ n

@@ -14,9 +14,6 @@ use Rattle.candidates.specs.Inner.{between}
 use Rattle.candidates.proofs.all_between.Statement.{statement}
 use Rattle.candidates.proofs.all_between.Tie as tie
 
--- `candidates::all_between` meets its contract. The loop's invariant: `ok` says whether every value passed is finite and within the bounds. The
--- measure is what is left of the count. Assumes nothing.
-
 abbrev Inv-loop : tie.InvT-loop
 Inv-loop values count low high ok₀ t₀ ok t = (t ≤ count) × (ok ≡ all (λ s. between low high (getD values s nan)) (below t))
 

@@ -12,14 +12,15 @@ use Rattle.game.proofs.Finite.{below-mem}
 use Rattle.utility.specs.Order.{finite}
 use Rattle.utility.proofs.All.{all-at, all-cong}
 use Rattle.candidates.specs.Sums.{sumOfProducts}
+use Rattle.candidates.specs.Checks.{maxActions}
 use Rattle.candidates.specs.Inner.{strided, between}
-use Rattle.candidates.proofs.Sums.{added-cong, SideBySide, side-start, side-next}
+use Rattle.candidates.proofs.Sums.{added-cong, SideBySide, side-start, side-below}
 use Rattle.candidates.proofs.Exact.{less-zero}
 use Rattle.candidates.proofs.expectations_between.Statement.{statement}
 use Rattle.candidates.proofs.expectations_between.Tie as tie
 
 abbrev Inv-loop : tie.InvT-loop
-Inv-loop payoffs vector count own others other low high sums₀ o₀ sums o = (o ≤ others) × SideBySide count (λ i. getD vector i nan) (strided payoffs own other) o sums
+Inv-loop payoffs vector count own others other low high sums₀ o₀ sums o = (o ≤ others) × SideBySide maxActions count (λ i. getD vector i nan) (strided payoffs own other) (below o) sums
 
 abbrev μ-loop : tie.MeasureT-loop
 μ-loop payoffs vector count own others other low high sums₀ o₀ sums o = others - o
@@ -33,7 +34,7 @@ loop-holds : tie.Need-loop-holds Inv-loop μ-loop
 loop-holds c =
     let s = c .before .before in
     let a = s .args in
-    (zero-le, side-start (a .count) (s .pre .0 .1) (λ i. getD (a .vector .now) i nan) (strided (a .payoffs .now) (a .own) (a .other)))
+    (zero-le, side-start maxActions (a .count) (s .pre .0 .1) (λ i. getD (a .vector .now) i nan) (strided (a .payoffs .now) (a .own) (a .other)))
 
 slice-aggregate-add-terms : tie.Need-slice-aggregate-add-terms Inv-loop μ-loop
 slice-aggregate-add-terms c = search needs
@@ -65,12 +66,12 @@ loop-again c =
     let turn = c .before .before .before .before in
     let place : ℕ → ℕ = λ t. t * s .args .own + l .o * s .args .other in (
       search needs,
-      subst (λ (xs : List Float). SideBySide (s .args .count) v b (l .o + 1) xs)
+      subst (λ (xs : List Float). SideBySide maxActions (s .args .count) v b (below (l .o + 1)) xs)
           (sym
           (c .before .add-terms .ensures
           ∙ added-cong (s .args .count) _ (λ t. mul binary64 (v (l .o)) (b t (l .o))) (l .sums)
           (λ t h. ap (mul binary64 (v (l .o))) (less-zero (b t (l .o)) (c .before .before .before .before .before .before .before .shared-slice-known .given (place t)) (all-at finite nan (s .args .payoffs .now) (place t) (s .pre .1 .1 .0) (inside turn t h))))))
-          (side-next (s .args .count) (s .pre .0 .1) v b (l .o) (l .sums) (l .inv .1)),
+          (side-below maxActions (s .args .count) (s .pre .0 .1) v b (l .o) (l .sums) (l .inv .1)),
     )
 
 slice-aggregate-all-between : tie.Need-slice-aggregate-all-between Inv-loop μ-loop

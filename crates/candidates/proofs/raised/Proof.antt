@@ -7,8 +7,6 @@ use Rattle.utility.specs.Order.{finite}
 use Rattle.candidates.proofs.raised.Statement.{statement}
 use Rattle.candidates.proofs.raised.Tie as tie
 
--- `candidates::raised` meets its contract: the tests are those of `raise`. Assumes nothing.
-
 is-finite-requires : tie.Need-is-finite-requires
 is-finite-requires c κs = search needs
 

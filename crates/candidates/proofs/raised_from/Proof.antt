@@ -11,9 +11,9 @@ use lib.Ieee.{Float, nan, binary64, sub}
 use lib.ListN.{length, getD}
 use Rattle.game.specs.Finite.{below, filter}
 use Rattle.game.proofs.Finite.{below-mem, filter-mem, map-cong}
-use Rattle.candidates.specs.Checks.{gain}
+use Rattle.candidates.specs.Checks.{maxActions, gain}
 use Rattle.candidates.specs.Inner.{strided, raiseAll}
-use Rattle.candidates.proofs.Sums.{SideBySide, side-start, side-next}
+use Rattle.candidates.proofs.Sums.{SideBySide, side-start, side-below}
 use Rattle.candidates.proofs.raised_from.Statement.{statement}
 use Rattle.candidates.proofs.raised_from.Tie as tie
 
@@ -22,7 +22,7 @@ abbrev differences : List Float → ℕ → ℕ → ℕ → ℕ → ℕ → Floa
 differences payoffs own other s t o = sub binary64 (strided payoffs own other t o) (strided payoffs own other s o)
 
 abbrev Inv-loop : tie.InvT-loop
-Inv-loop best payoffs weights s count own others other gains₀ o₀ gains o = (o ≤ others) × SideBySide count (strided weights own other s) (differences payoffs own other s) o gains
+Inv-loop best payoffs weights s count own others other gains₀ o₀ gains o = (o ≤ others) × SideBySide maxActions count (strided weights own other s) (differences payoffs own other s) (below o) gains
 
 abbrev μ-loop : tie.MeasureT-loop
 μ-loop best payoffs weights s count own others other gains₀ o₀ gains o = others - o
@@ -41,7 +41,7 @@ loop-holds : tie.Need-loop-holds Inv-loop μ-loop
 loop-holds c =
     let s = c .before .before in
     let a = s .args in
-    (zero-le, side-start (a .count) (s .pre .0 .1) (strided (a .weights .now) (a .own) (a .other) (a .s)) (differences (a .payoffs .now) (a .own) (a .other) (a .s)))
+    (zero-le, side-start maxActions (a .count) (s .pre .0 .1) (strided (a .weights .now) (a .own) (a .other) (a .s)) (differences (a .payoffs .now) (a .own) (a .other) (a .s)))
 
 mul-first : tie.Need-mul-first Inv-loop μ-loop
 mul-first c = omega (arith, at c)
@@ -83,8 +83,8 @@ loop-again c =
     let a = strided (s .args .weights .now) (s .args .own) (s .args .other) (s .args .s) in
     let b = differences (s .args .payoffs .now) (s .args .own) (s .args .other) (s .args .s) in (
       search needs,
-      subst (λ (xs : List Float). SideBySide (s .args .count) a b (l .o + 1) xs) (sym (c .before .add-terms .ensures))
-          (side-next (s .args .count) (s .pre .0 .1) a b (l .o) (l .gains) (l .inv .1)),
+      subst (λ (xs : List Float). SideBySide maxActions (s .args .count) a b (below (l .o + 1)) xs) (sym (c .before .add-terms .ensures))
+          (side-below maxActions (s .args .count) (s .pre .0 .1) a b (l .o) (l .gains) (l .inv .1)),
     )
 
 slice-aggregate-raised-by : tie.Need-slice-aggregate-raised-by Inv-loop μ-loop

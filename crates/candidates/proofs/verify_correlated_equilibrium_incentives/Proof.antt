@@ -32,7 +32,7 @@ returns : tie.Need-returns
 returns c =
     let a = c .before .before .before .before .before .before .args in
     c .infinity .ensures
-    ∙ not-formed (a .m) (a .n) (a .u1 .now) (a .u2 .now) (a .weights .now) (sym (c .before .before .is-well-formed .ensures) ∙ not-true _ (c .before .if1 .taken))
+    ∙ sym (not-formed (a .m) (a .n) (a .u1 .now) (a .u2 .now) (a .weights .now) (sym (c .before .before .is-well-formed .ensures) ∙ not-true _ (c .before .if1 .taken)))
 
 raised-player-requires : tie.Need-raised-player-requires
 raised-player-requires c κs =

@@ -12,9 +12,10 @@ use Rattle.utility.specs.Order.{finite}
 use Rattle.utility.proofs.All.{at-all}
 use Rattle.candidates.specs.Checks.{distribution, claimed, columnHolds, minimax}
 use Rattle.candidates.specs.Meaning.{Claimed}
+use Rattle.candidates.specs.Inner.{within}
 use Rattle.candidates.proofs.Meaning.{claimed-law}
 use Rattle.candidates.proofs.Shape.{rows-span, columns-span}
-use Rattle.candidates.proofs.Expectations.{within, columns-are, rows-are}
+use Rattle.candidates.proofs.Expectations.{columns-are, rows-are}
 use Rattle.candidates.proofs.verify_minimax_residuals.Statement.{statement}
 use Rattle.candidates.proofs.verify_minimax_residuals.Tie as tie
 
