@@ -1,9 +1,17 @@
-// What the test programs at the limits share. They print to standard output: numbers, payoffs that are whole numbers, and what a call told,
-// each after a space. And they hand in the first of some payoffs.
+// What the test programs at the limits share. They print to standard output: numbers, floats, and what a call told, each after a space.
+// And they make the lists that a call is handed.
 ghost use mathlib.Core.Path.{_≡_};
-ghost use lib.ListN.{take};
+ghost use Prim.Native.Nat.{ℕ, _<_};
+ghost use lib.IntN.{pos};
+ghost use lib.Ieee.{nan, binary64, ofInt, add, mul};
+ghost use lib.ListN.{length, getD, set, take};
 use libc::STDOUT_FILENO;
 use refusal::UsizeResult;
+
+// The largest finite f64, and the least above 0.0.
+pub const LARGEST: f64 = 1.7976931348623157e308;
+
+pub const LEAST: f64 = 5e-324;
 
 // The bytes as they are.
 pub fn text(bytes: &[u8]) {
@@ -25,31 +33,61 @@ pub fn numbers(list: &[usize]) {
     }
 }
 
-// A payoff that is a whole number from 0 on, or -0.0.
-pub fn whole(x: f64) {
+// A float's bits, in hexadecimal. A NaN has none here.
+pub fn bits(x: f64) {
+    text(b" ");
+    if x == x {
+        io::print_hex(STDOUT_FILENO, f64::to_bits(x), 16);
+    } else {
+        text(b"NaN");
+    }
+}
+
+// A float that is not negative, and no -0.0: a whole number in decimal, infinity by its name, and any other by its bits.
+fn magnitude(x: f64) {
+    if x == 1.0 / 0.0 {
+        text(b"infinity");
+        return;
+    }
     if x > -1.0 {
         if x < 18446744073709551616.0 {
             let n = std::num::truncating_f64_to_u64(x);
             if std::num::nearest_u64_to_f64(n) == x {
-                if 1.0 / x < 0.0 {
-                    text(b" -0");
-                } else {
-                    text(b" ");
-                    io::print_decimal(STDOUT_FILENO, n);
-                }
+                io::print_decimal(STDOUT_FILENO, n);
                 return;
             }
         }
     }
-    text(b" not a whole number from 0");
+    text(b"bits");
+    bits(x);
 }
 
-// Each payoff of the list.
-pub fn wholes(list: &[f64]) {
+// A float: its magnitude, after a minus sign where it is negative or -0.0.
+pub fn float(x: f64) {
+    if (x < 0.0) | (1.0 / x < 0.0) {
+        text(b" -");
+        magnitude(-x);
+    } else {
+        text(b" ");
+        magnitude(x);
+    }
+}
+
+// Each float of the list.
+pub fn floats(list: &[f64]) {
     let mut i = 0;
     while i < list.len() {
-        whole(list[i]);
+        float(list[i]);
         i += 1;
+    }
+}
+
+// Whether a call said yes.
+pub fn answer(yes: bool) {
+    if yes {
+        text(b" yes");
+    } else {
+        text(b" no");
     }
 }
 
@@ -78,5 +116,26 @@ pub fn first(values: &[f64], n: usize) -> &[f64]
         &values[..n]
     } else {
         values
+    }
+}
+
+// Puts x at a place, if there is such a place.
+pub fn put(values: &mut [f64], at: usize, x: f64)
+    ensures { λ _. ⌜ now (values .exit) ≡ set (now (values .entry)) at x ⌝ }
+{
+    if at < values.len() {
+        values[at] = x;
+    }
+}
+
+// The value start + i × step at each place i.
+pub fn fill(values: &mut [f64], start: f64, step: f64)
+    ensures { λ _. ⌜ length (now (values .exit)) ≡ length (now (values .entry)) ⌝ }
+    ensures { λ _. ⌜ ((i : ℕ) → i < length (now (values .entry)) → getD (now (values .exit)) i nan ≡ add binary64 start (mul binary64 step (ofInt binary64 (pos i)))) ⌝ }
+{
+    let mut i = 0;
+    while i < values.len() {
+        values[i] = start + step * std::num::nearest_u64_to_f64(i as u64);
+        i += 1;
     }
 }

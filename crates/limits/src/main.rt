@@ -1,14 +1,19 @@
 // The cases at the limits of document 01, one line each: a short name, and what the call told, which is `ok` with its values or
 // `refused` with the refusal's number. The sizes come from the limits of `table`; counts 8 8 16 16 and 8 8 16 17 are document 01's.
+use cases::LARGEST;
+use cases::LEAST;
+use cases::answer;
+use cases::bits;
+use cases::fill;
 use cases::first;
+use cases::float;
+use cases::floats;
 use cases::number;
 use cases::numbers;
+use cases::put;
 use cases::refused;
 use cases::text;
 use cases::told_usize;
-use cases::whole;
-use cases::wholes;
-use libc::STDOUT_FILENO;
 use refusal::UnitResult;
 use table::MAX_CELLS;
 use table::MAX_PLAYERS;
@@ -24,21 +29,6 @@ const SMALL: usize = 72;
 // The most payoffs that a case hands in: one too many for the largest table.
 const LENGTH: usize = MAX_CELLS + 1;
 
-// The largest finite f64, and the least above 0.0.
-const LARGEST: f64 = 1.7976931348623157e308;
-
-const LEAST: f64 = 5e-324;
-
-// A float's bits, in hexadecimal. A NaN has none here.
-fn bits(x: f64) {
-    text(b" ");
-    if x == x {
-        io::print_hex(STDOUT_FILENO, f64::to_bits(x), 16);
-    } else {
-        text(b"NaN");
-    }
-}
-
 fn told_unit(r: UnitResult) {
     match r {
         UnitResult::Ok => text(b" ok"),
@@ -50,7 +40,7 @@ fn told_payoff(r: UtilityResult) {
     match r {
         UtilityResult::Ok(u) => {
             text(b" ok");
-            whole(u.value());
+            float(u.value());
         }
         UtilityResult::Err(e) => refused(e.number()),
     }
@@ -88,22 +78,6 @@ fn of_table(name: &[u8], counts: &[usize], payoffs: &[f64], n: usize) {
     text(b"\n");
 }
 
-// Puts x at a place, if there is such a place.
-fn put(values: &mut [f64], at: usize, x: f64) {
-    if at < values.len() {
-        values[at] = x;
-    }
-}
-
-// The value i at each place i.
-fn distinct(values: &mut [f64]) {
-    let mut i = 0;
-    while i < values.len() {
-        values[i] = std::num::nearest_u64_to_f64(i as u64);
-        i += 1;
-    }
-}
-
 // A table of n payoffs whose payoff at one place is x, and 0.0 at the others.
 fn with_value(name: &[u8], counts: &[usize], payoffs: &mut [f64], n: usize, at: usize, x: f64) {
     put(payoffs, at, x);
@@ -133,7 +107,7 @@ fn of_profile(name: &[u8], counts: &[usize], payoffs: &[f64], profile: &[usize],
     text(b"; part of");
     number(part.len());
     text(b":");
-    wholes(part);
+    floats(part);
     text(b"\n");
 }
 
@@ -162,14 +136,6 @@ fn of_float(name: &[u8], x: f64) {
         UtilityResult::Err(e) => refused(e.number()),
     }
     text(b"\n");
-}
-
-fn answer(yes: bool) {
-    if yes {
-        text(b" yes");
-    } else {
-        text(b" no");
-    }
 }
 
 fn compared(a: Utility, b: Utility) {
@@ -348,7 +314,7 @@ fn odd_steps() {
     of_step(b"no counts", &[], [9; MAX_PLAYERS]);
 }
 
-fn floats() {
+fn utilities() {
     of_float(b"0.0", 0.0);
     of_float(b"-0.0", -0.0);
     of_float(b"the largest finite", LARGEST);
@@ -382,11 +348,11 @@ fn main() {
     finite(&mut payoffs);
     put(&mut payoffs, 0, 0.0 / 0.0);
     table_faults(&payoffs);
-    distinct(&mut payoffs);
+    fill(&mut payoffs, 0.0, 1.0);
     profiles(&payoffs);
     profile_faults(&payoffs);
     steps();
     odd_steps();
-    floats();
+    utilities();
     orders();
 }

@@ -1,5 +1,5 @@
-// Replays answers that the Rust original gave. Standard input has a case to a line, as unsigned decimal numbers with one space between
-// them, each f64 by its 64 bits. The lines and their calls, where TABLE is `N count*N M BITS*M` and OUTPUTS is `A element*A B element*B`:
+// Replays answers that the Rust original gave: standard input is a sample, as `sample` reads it. The lines and their calls, where TABLE is
+// `N count*N M BITS*M` and OUTPUTS is `A element*A B element*B`:
 //     1 BITS STATUS                                         Utility::new
 //     2 N count*N STATUS                                    StrategySpace::from_counts
 //     3 TABLE STATUS                                        PayoffMatrix::new
@@ -14,57 +14,40 @@
 // The file `stdin` was recorded by `compare/run --record crates/replay/stdin`, which runs the original unchanged; in 5 to 9 document 01
 // judges where the original does not.
 ghost use Prim.Native.Nat.{_≤_};
-ghost use lib.ListN.{length};
+use cases::number;
+use cases::text;
 use libc::STDIN_FILENO;
-use libc::STDOUT_FILENO;
 use refusal::BoolResult;
 use refusal::UnitResult;
 use refusal::UsizeResult;
+use sample::CALLS;
+use sample::Case;
+use sample::Cursor;
+use sample::Line;
+use sample::NUMBERS;
+use sample::Read;
+use sample::Tally;
+use sample::Told;
+use sample::bits_of;
+use sample::ends;
+use sample::float;
+use sample::floats;
+use sample::last;
+use sample::list;
+use sample::next;
 use table::MAX_PLAYERS;
 use table::SpaceResult;
 use table::StrategySpace;
 use utility::Utility;
 use utility::UtilityResult;
 
-// The most counts, payoffs, choices and elements of an output of a line, and the most differing lines that are printed.
+// The most counts and choices of a line. The most payoffs, and elements of an output, are NUMBERS.
 const COUNTS: usize = 9;
-
-const PAYOFFS: usize = 64;
 
 const CHOICES: usize = 10;
 
-const OUTPUT: usize = 64;
-
-const PRINTED: u64 = 10;
-
-// The calls have the numbers below this one, from 1 on.
-const CALLS: usize = 10;
-
 // What stands in an output's first element before the call.
 const FILLING: usize = 7;
-
-// A place in a line.
-struct Cursor {
-    at: usize,
-}
-
-// A number that was read, and the place after it.
-enum Read {
-    Number(u64, Cursor),
-    Bad,
-}
-
-// A number with one more digit.
-enum Pushed {
-    Number(u64),
-    Over,
-}
-
-// What a call tells: its status, and a number, a payoff's bits, or 0 where there is none.
-struct Told {
-    status: u64,
-    value: u64,
-}
 
 // What was recorded at a line's end.
 enum Ending {
@@ -76,169 +59,14 @@ enum Ending {
 struct Listing {
     readable: bool,
     recorded: Told,
-    first: [usize; OUTPUT],
+    first: [usize; NUMBERS],
     first_length: usize,
-    second: [usize; OUTPUT],
+    second: [usize; NUMBERS],
     second_length: usize,
-}
-
-// What the call of a number told beside what was recorded. `rest` says whether the space or the outputs are those due, and is true of a
-// call that has none.
-struct Case {
-    call: usize,
-    told: Told,
-    recorded: Told,
-    rest: bool,
-}
-
-// What a line holds.
-enum Line {
-    Ran(Case),
-    Unreadable,
-}
-
-// How many lines were read and how many cases were run, of each call and in all, and how many of them differ.
-struct Tally {
-    lines: u64,
-    calls: [u64; CALLS],
-    cases: u64,
-    differ: u64,
-}
-
-fn text(bytes: &[u8]) {
-    io::write_all(STDOUT_FILENO, bytes);
-}
-
-fn number(n: u64) {
-    text(b" ");
-    io::print_decimal(STDOUT_FILENO, n);
-}
-
-// One more, up to the largest number.
-fn up(n: u64) -> u64 {
-    if n < u64::MAX { n + 1 } else { n }
-}
-
-fn push(n: u64, digit: u8) -> Pushed {
-    let d = digit as u64;
-    if u64::MAX / 10 < n {
-        return Pushed::Over;
-    }
-    let tens = n * 10;
-    if u64::MAX - tens < d {
-        return Pushed::Over;
-    }
-    Pushed::Number(tens + d)
-}
-
-// The number whose digits start at the cursor.
-fn digits(s: &[u8], c: Cursor) -> Read {
-    let start = c.at;
-    let mut n: u64 = 0;
-    let mut i = start;
-    while i < s.len() {
-        let b = s[i];
-        if b < b'0' {
-            break;
-        }
-        if b'9' < b {
-            break;
-        }
-        match push(n, b - b'0') {
-            Pushed::Number(m) => n = m,
-            Pushed::Over => return Read::Bad,
-        }
-        i += 1;
-    }
-    if i == start {
-        return Read::Bad;
-    }
-    Read::Number(n, Cursor { at: i })
-}
-
-// A space, and the number after it.
-fn next(s: &[u8], c: Cursor) -> Read {
-    let at = c.at;
-    if s.len() <= at {
-        return Read::Bad;
-    }
-    if s[at] != b' ' {
-        return Read::Bad;
-    }
-    digits(s, Cursor { at: at + 1 })
-}
-
-fn ends(s: &[u8], c: Cursor) -> bool {
-    c.at == s.len()
-}
-
-// Reads n numbers into `out`, which must have room for them, and answers n.
-fn list(s: &[u8], c: Cursor, out: &mut [usize]) -> Read {
-    let Read::Number(n, first) = next(s, c) else {
-        return Read::Bad;
-    };
-    let mut i = 0;
-    let mut place = first;
-    while (i as u64) < n {
-        if out.len() <= i {
-            return Read::Bad;
-        }
-        match next(s, place) {
-            Read::Number(x, after) => {
-                out[i] = x as usize;
-                place = after;
-            }
-            Read::Bad => return Read::Bad,
-        }
-        i += 1;
-    }
-    Read::Number(n, place)
-}
-
-// The f64 of 64 bits; 0.0 / 0.0 for every NaN's.
-fn float(bits: u64) -> f64 {
-    // the exponent's field
-    if bits % 0x8000000000000000 / 0x10000000000000 != 0x7ff {
-        return f64::from_bits(bits);
-    }
-    // an infinity
-    if bits % 0x10000000000000 == 0 {
-        return f64::from_bits(bits);
-    }
-    0.0 / 0.0
-}
-
-// The bits of an f64; those of one NaN for every NaN.
-fn bits_of(x: f64) -> u64 {
-    if x == x {
-        f64::to_bits(x)
-    } else {
-        0x7ff8000000000000
-    }
-}
-
-// The f64s of a list of bits.
-fn floats(bits: [usize; PAYOFFS]) -> [f64; PAYOFFS] {
-    let mut values = [0.0; PAYOFFS];
-    let mut i = 0;
-    while i < PAYOFFS {
-        values[i] = float(bits[i] as u64);
-        i += 1;
-    }
-    values
 }
 
 // The first n of a list, or all of it where it is shorter.
 fn first(list: &[usize], n: u64) -> &[usize] {
-    let end = n as usize;
-    if end < list.len() {
-        &list[0..end]
-    } else {
-        list
-    }
-}
-
-fn first_floats(list: &[f64], n: u64) -> &[f64] {
     let end = n as usize;
     if end < list.len() {
         &list[0..end]
@@ -357,12 +185,9 @@ fn new_line(s: &[u8], c: Cursor) -> Line {
     let Read::Number(bits, c) = next(s, c) else {
         return Line::Unreadable;
     };
-    let Read::Number(status, c) = next(s, c) else {
+    let Read::Number(status, _) = last(s, c) else {
         return Line::Unreadable;
     };
-    if !ends(s, c) {
-        return Line::Unreadable;
-    }
     let value = if status == 0 { bits } else { 0 };
     plain(
         1,
@@ -376,12 +201,9 @@ fn from_counts_line(s: &[u8], c: Cursor) -> Line {
     let Read::Number(n, c) = list(s, c, &mut counts) else {
         return Line::Unreadable;
     };
-    let Read::Number(recorded, c) = next(s, c) else {
+    let Read::Number(recorded, _) = last(s, c) else {
         return Line::Unreadable;
     };
-    if !ends(s, c) {
-        return Line::Unreadable;
-    }
     let given = first(&counts, n);
     of_space(2, StrategySpace::from_counts(given), given, recorded)
 }
@@ -393,22 +215,16 @@ fn end(s: &[u8], c: Cursor) -> Ending {
     let Read::Number(status, c) = next(s, c) else {
         return Ending::Bad;
     };
-    let Read::Number(value, c) = next(s, c) else {
+    let Read::Number(value, _) = last(s, c) else {
         return Ending::Bad;
     };
-    if !ends(s, c) {
-        return Ending::Bad;
-    }
     Ending::Told(Told { status, value })
 }
 
 fn matrix_line(s: &[u8], c: Cursor, counts: &[usize], payoffs: &[f64]) -> Line {
-    let Read::Number(recorded, c) = next(s, c) else {
+    let Read::Number(recorded, _) = last(s, c) else {
         return Line::Unreadable;
     };
-    if !ends(s, c) {
-        return Line::Unreadable;
-    }
     of_space(3, table::payoff_matrix(counts, payoffs), counts, recorded)
 }
 
@@ -451,10 +267,10 @@ fn count_line(s: &[u8], c: Cursor, counts: &[usize], payoffs: &[f64]) -> Line {
 // ---- the lines with outputs
 
 // An output before the call.
-fn filled() -> [usize; OUTPUT] {
-    let mut list = [0; OUTPUT];
+fn filled() -> [usize; NUMBERS] {
+    let mut list = [0; NUMBERS];
     let mut i = 0;
-    while i < OUTPUT {
+    while i < NUMBERS {
         list[i] = FILLING + i;
         i += 1;
     }
@@ -462,10 +278,10 @@ fn filled() -> [usize; OUTPUT] {
 }
 
 // The bits of a list of f64s.
-fn bits_list(values: [f64; OUTPUT]) -> [usize; OUTPUT] {
-    let mut bits = [0; OUTPUT];
+fn bits_list(values: [f64; NUMBERS]) -> [usize; NUMBERS] {
+    let mut bits = [0; NUMBERS];
     let mut i = 0;
-    while i < OUTPUT {
+    while i < NUMBERS {
         bits[i] = bits_of(values[i]) as usize;
         i += 1;
     }
@@ -494,7 +310,7 @@ fn same_first(a: &[usize], b: &[usize], n: usize) -> bool {
 fn room(n: usize) -> usize
     ensures { λ r. ⌜ r ≤ 64 ⌝ }
 {
-    if n < OUTPUT { n } else { OUTPUT }
+    if n < NUMBERS { n } else { NUMBERS }
 }
 
 fn no_outputs() -> Listing {
@@ -504,17 +320,17 @@ fn no_outputs() -> Listing {
             status: 0,
             value: 0,
         },
-        first: [0; OUTPUT],
+        first: [0; NUMBERS],
         first_length: 0,
-        second: [0; OUTPUT],
+        second: [0; NUMBERS],
         second_length: 0,
     }
 }
 
 // A status, a value and two lists, up to the line's end.
 fn outputs(s: &[u8], c: Cursor) -> Listing {
-    let mut first = [0; OUTPUT];
-    let mut second = [0; OUTPUT];
+    let mut first = [0; NUMBERS];
+    let mut second = [0; NUMBERS];
     let Read::Number(status, c) = next(s, c) else {
         return no_outputs();
     };
@@ -541,8 +357,8 @@ fn outputs(s: &[u8], c: Cursor) -> Listing {
 fn of_outputs(
     call: usize,
     r: UsizeResult,
-    first: [usize; OUTPUT],
-    second: [usize; OUTPUT],
+    first: [usize; NUMBERS],
+    second: [usize; NUMBERS],
     o: Listing,
 ) -> Line {
     let recorded = o.recorded;
@@ -640,7 +456,7 @@ fn choices_line(call: u64, s: &[u8], c: Cursor, counts: &[usize], payoffs: &[f64
 
 fn table_line(call: u64, s: &[u8], c: Cursor) -> Line {
     let mut counts = [0; COUNTS];
-    let mut bits = [0; PAYOFFS];
+    let mut bits = [0; NUMBERS];
     let Read::Number(n, c) = list(s, c, &mut counts) else {
         return Line::Unreadable;
     };
@@ -649,7 +465,7 @@ fn table_line(call: u64, s: &[u8], c: Cursor) -> Line {
     };
     let given = first(&counts, n);
     let values = floats(bits);
-    let payoffs = first_floats(&values, m);
+    let payoffs = cases::first(&values, m as usize);
     match call {
         3 => matrix_line(s, c, given, payoffs),
         7 => count_line(s, c, given, payoffs),
@@ -661,7 +477,7 @@ fn table_line(call: u64, s: &[u8], c: Cursor) -> Line {
 
 // Runs the case of a line.
 fn run(s: &[u8]) -> Line {
-    let Read::Number(call, c) = digits(s, Cursor { at: 0 }) else {
+    let Read::Number(call, c) = sample::digits(s, Cursor { at: 0 }) else {
         return Line::Unreadable;
     };
     match call {
@@ -672,18 +488,6 @@ fn run(s: &[u8]) -> Line {
 }
 
 // ---- the tally
-
-fn same(c: Case) -> bool {
-    let told = c.told;
-    let recorded = c.recorded;
-    if told.status != recorded.status {
-        return false;
-    }
-    if told.value != recorded.value {
-        return false;
-    }
-    c.rest
-}
 
 fn print_call(call: usize) {
     match call {
@@ -700,117 +504,14 @@ fn print_call(call: usize) {
     }
 }
 
-fn print_told(t: Told) {
-    number(t.status);
-    number(t.value);
-}
-
-fn print_case(line: u64, c: Case) {
-    text(b"line");
-    number(line);
-    text(b": ");
-    print_call(c.call);
-    text(b" told");
-    let told = c.told;
-    print_told(told);
-    if !c.rest {
-        text(b" and another space or output");
-    }
-    text(b", recorded");
-    let recorded = c.recorded;
-    print_told(recorded);
-    text(b"\n");
-}
-
-fn print_unreadable(line: u64) {
-    text(b"line");
-    number(line);
-    text(b": cannot be read\n");
-}
-
-// The numbers with one more at a call's place, if there is such a place.
-fn one_more(calls: [u64; CALLS], call: usize) -> [u64; CALLS] {
-    let mut more = calls;
-    if call < CALLS {
-        more[call] = up(more[call]);
-    }
-    more
-}
-
-impl Tally {
-    fn new() -> Tally {
-        Tally {
-            lines: 0,
-            calls: [0; CALLS],
-            cases: 0,
-            differ: 0,
-        }
-    }
-
-    // With one more that differs.
-    fn failed(mut self) -> Tally {
-        let differ = up(self.differ);
-        self.differ = differ;
-        self
-    }
-
-    // With a case that was run: printed where it is among the first that differ.
-    fn judged(mut self, c: Case) -> Tally {
-        let before = self.calls;
-        let calls = one_more(before, c.call);
-        self.calls = calls;
-        let cases = up(self.cases);
-        self.cases = cases;
-        if same(c) {
-            return self;
-        }
-        if self.differ < PRINTED {
-            print_case(self.lines, c);
-        }
-        self.failed()
-    }
-
-    fn unreadable(self) -> Tally {
-        if self.differ < PRINTED {
-            print_unreadable(self.lines);
-        }
-        self.failed()
-    }
-
-    // With one line more.
-    fn with(mut self, line: Line) -> Tally {
-        let lines = up(self.lines);
-        self.lines = lines;
-        match line {
-            Line::Ran(c) => self.judged(c),
-            Line::Unreadable => self.unreadable(),
-        }
-    }
-}
-
-// How many bytes there are before the first line end, or in all.
-fn line_length(s: &[u8]) -> usize
-    ensures { λ r. ⌜ r ≤ length (now (s .entry)) ⌝ }
-{
-    let mut n = 0;
-    while n < s.len() {
-        if s[n] == b'\n' {
-            return n;
-        }
-        n += 1;
-    }
-    n
-}
-
 // Runs each line.
 fn replayed(s: &[u8]) -> Tally {
     let mut tally = Tally::new();
     let mut at = 0;
     while at < s.len() {
-        let rest = &s[at..];
-        let n = line_length(rest);
-        tally = tally.with(run(&rest[..n]));
-        at += n;
+        let line = sample::first_line(&s[at..]);
+        tally = tally.with(run(line));
+        at += line.len();
         if at < s.len() {
             at += 1;
         }
@@ -822,29 +523,17 @@ fn print_calls(calls: [u64; CALLS]) {
     let mut call = 1;
     while call < CALLS {
         print_call(call);
-        number(calls[call]);
+        number(calls[call] as usize);
         text(b" cases\n");
         call += 1;
     }
-}
-
-fn report(t: Tally) {
-    let calls = t.calls;
-    print_calls(calls);
-    io::print_decimal(STDOUT_FILENO, t.cases);
-    text(b" cases,");
-    number(t.differ);
-    text(b" differ\n");
 }
 
 fn main() {
     let mut input = io::large_buffer();
     let n = io::read_full(STDIN_FILENO, &mut input);
     let tally = replayed(&input[..n]);
-    if n == input.len() {
-        text(b"the input fills the buffer, so that some of it may be missing\n");
-        report(tally.failed());
-    } else {
-        report(tally);
-    }
+    let calls = tally.calls;
+    print_calls(calls);
+    tally.report(n == input.len());
 }

@@ -1,17 +1,19 @@
 // The cases of the solvers at the limits of document 01 and its games, one line each: a short name, and what each of the five calls told,
 // which is `ok` with its value or `refused` with the refusal's number. After a call with outputs both stand whole; element i was 100 + i
 // before it. The sizes come from the limits of `table`; 2,048 cells are the most that `pure_nash` walks with its smaller arrays.
+use cases::answer;
+use cases::fill;
 use cases::first;
+use cases::floats;
 use cases::numbers;
 use cases::refused;
 use cases::text;
 use cases::told_usize;
-use cases::wholes;
 use refusal::BoolResult;
 use table::MAX_CELLS;
 use table::MAX_PLAYERS;
 use table::MAX_STRATEGIES;
-ghost use Prim.Native.Nat.{_≤_};
+ghost use Prim.Native.Nat.{_<_, _≤_};
 
 // The cells of the small table, of counts 2 3 4. The large table has counts 8 8 16 16 and the most cells.
 const SMALL: usize = 72;
@@ -38,18 +40,13 @@ fn number_all(list: &mut [usize]) {
     }
 }
 
-// The value start + i at each place i where `step` is 0; otherwise 1.0 at the first two of every `step` places, and 0.0 at the others.
-fn value(i: usize, start: f64, step: usize) -> f64 {
-    if step == 0 {
-        return start + std::num::nearest_u64_to_f64(i as u64);
-    }
-    if i % step < 2 { 1.0 } else { 0.0 }
-}
-
-fn fill(values: &mut [f64], start: f64, step: usize) {
+// 1.0 at the first two of every `step` places, and 0.0 at the others.
+fn fill_pairs(values: &mut [f64], step: usize)
+    requires { ⌜ 0 < step ⌝ }
+{
     let mut i = 0;
     while i < values.len() {
-        values[i] = value(i, start, step);
+        values[i] = if i % step < 2 { 1.0 } else { 0.0 };
         i += 1;
     }
 }
@@ -65,7 +62,7 @@ fn responses(
     utilities: &mut [f64],
 ) {
     number_all(strategies);
-    fill(utilities, FLOAT_FILLING, 0);
+    fill(utilities, FLOAT_FILLING, 1.0);
     text(b": responses");
     told_usize(best_response::best_responses(
         counts,
@@ -78,7 +75,7 @@ fn responses(
     text(b",");
     numbers(strategies);
     text(b",");
-    wholes(utilities);
+    floats(utilities);
 }
 
 fn dominated(
@@ -108,11 +105,8 @@ fn equilibrium(counts: &[usize], payoffs: &[f64], profile: &[usize]) {
     text(b"; equilibrium");
     match pure_nash::is_equilibrium(counts, payoffs, profile) {
         BoolResult::Ok(yes) => {
-            if yes {
-                text(b" ok yes");
-            } else {
-                text(b" ok no");
-            }
+            text(b" ok");
+            answer(yes);
         }
         BoolResult::Err(e) => refused(e.number()),
     }
@@ -120,7 +114,7 @@ fn equilibrium(counts: &[usize], payoffs: &[f64], profile: &[usize]) {
 
 fn equilibria(counts: &[usize], payoffs: &[f64], choices: &mut [usize], utilities: &mut [f64]) {
     number_all(choices);
-    fill(utilities, FLOAT_FILLING, 0);
+    fill(utilities, FLOAT_FILLING, 1.0);
     text(b"; count");
     told_usize(pure_nash::count_equilibria(counts, payoffs));
     text(b"; equilibria");
@@ -128,7 +122,7 @@ fn equilibria(counts: &[usize], payoffs: &[f64], choices: &mut [usize], utilitie
     text(b",");
     numbers(choices);
     text(b",");
-    wholes(utilities);
+    floats(utilities);
 }
 
 // A length, or the longest output's where that is less.
@@ -391,9 +385,9 @@ fn float_ends(list: &[f64]) {
     if 8 < list.len() {
         let from = list.len() - 5;
         text(b",");
-        wholes(&list[0..4]);
+        floats(&list[0..4]);
         text(b" ..");
-        wholes(&list[from..]);
+        floats(&list[from..]);
     }
 }
 
@@ -601,14 +595,14 @@ fn main() {
     infinities();
     equal_strategies(&payoffs);
     large_outputs(&payoffs);
-    fill(&mut payoffs, 0.0, 0);
+    fill(&mut payoffs, 0.0, 1.0);
     strategies(&payoffs);
     players(&payoffs);
     cells(&payoffs);
     small(&payoffs);
     small_faults(&payoffs);
-    fill(&mut payoffs, 0.0, 66);
+    fill_pairs(&mut payoffs, 66);
     alike_2048(&payoffs);
-    fill(&mut payoffs, 0.0, 78);
+    fill_pairs(&mut payoffs, 78);
     alike_2052(&payoffs);
 }

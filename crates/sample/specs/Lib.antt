@@ -1,0 +1,2 @@
+-- The definitions of this crate: where a place lies.
+pub mod Places
