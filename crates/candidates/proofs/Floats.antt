@@ -1,8 +1,9 @@
--- Comparisons that the code makes: the distance from 0 by a negation under a test (`far-below`, `far-above`), and infinities as bounds that no
--- finite number passes (`no-high`, `no-low`). Assumes nothing.
+-- Comparisons that the code makes: the distance from 0 (`distance-law`) by a negation under a test (`far-below`, `far-above`), and infinities as
+-- bounds that no finite number passes (`no-high`, `no-low`). Assumes nothing.
+use mathlib.Core.Logic.{_⊎_, inl, inr}
 use mathlib.Core.Path.{_≡_, refl, sym, ap, _∙_}
 use mathlib.Core.Bool.{Bool, true, false, not, _&&_, and-true, true≢false}
-use Prim.Native.Nat.{zero, suc, _+_, _*_, zero-le, suc-le-suc}
+use Prim.Native.Nat.{ℕ, zero, suc, _+_, _*_, zero-le, suc-le-suc}
 use native.Mathlib.Nat.{zero-mul, mul-pos, add-zero}
 use native.Mathlib.Omega.{arith}
 use borrow.Author.Tests.{le-ltb, lt-ltb}
@@ -38,6 +39,10 @@ below-minus-infinity (fin s m e) h = refl
 none : (e d : ℤ) → 0 * up e * down d ≡ 0
 none e d = rw (zero-mul (up e), zero-mul (down d))
 
+not-below : (m : ℕ) (e : ℤ) → lt (fin false m e) nought ≡ false
+unfolding lt
+not-below m e = ap (lt (fin false m e)) zero-is ∙ le-ltb (m * up e * down (pos 0)) (0 * up (pos 0) * down e) (omega (arith, none (pos 0) e))
+
 below-is : (x : Float) → lt x (fin false 0 (pos 0)) ≡ true → neg x ≡ distance x
 unfolding lt neg distance
 below-is nan h = refl
@@ -71,6 +76,15 @@ far-below x h = below-is x (ap (lt x) (sym zero-is) ∙ h)
 -- a number that is not has it clear, or is -0.0
 pub far-above : (x y : Float) → lt x nought ≡ false → lt y x ≡ lt y (distance x)
 far-above x y h = above-is x y (ap (lt x) (sym zero-is) ∙ h)
+
+-- the distance from 0 is the number or its negation, and not below 0
+pub distance-law : (x : Float) → ((distance x ≡ x) ⊎ (distance x ≡ neg x)) × (lt (distance x) nought ≡ false)
+unfolding distance neg lt ofBits
+distance-law nan = (inl refl, refl)
+distance-law (inf true) = (inr refl, refl)
+distance-law (inf false) = (inl refl, refl)
+distance-law (fin true m e) = (inr refl, not-below m e)
+distance-law (fin false m e) = (inl refl, not-below m e)
 
 -- ---- bounds of which one is an infinity
 

@@ -123,7 +123,7 @@ module _ (m n : ℕ) (payoffs p1 p2 : List Float) (claim : Claim) where
   abbrev pub rowHolds : ℕ → Bool
   rowHolds i = finite (row n payoffs p2 i) && not (lt (add binary64 (claim .value) (claim .tolerance)) (row n payoffs p2 i))
 
-  -- yes where nothing makes it no
+  -- no in each of document 01's cases, else yes
   unfoldable pub minimax : Bool
   minimax =
       claimed
