@@ -90,7 +90,7 @@ record Computed : Type 0 where
   by-columns : incentives 2 2 nothing corner (zero ∷ zero ∷ one ∷ zero ∷ []) ≡ one
   -- zero weights are not skipped: 0 × infinity is no number
   overflow : incentives 2 1 (huge ∷ minus-huge ∷ []) (zero ∷ zero ∷ []) (zero ∷ zero ∷ []) ≡ inf false
-  -- −0.0 is a weight, and the answer is +0.0; a negative weight, a wrong length and a NaN are not
+  -- −0.0 is a weight, and the answer is +0.0; a negative weight, a wrong length, a NaN and no rows are answered by infinity
   minus-weight : incentives 2 1 (one ∷ zero ∷ []) (zero ∷ zero ∷ []) (minus-zero ∷ minus-zero ∷ []) ≡ zero
   negative : incentives 1 1 (one ∷ []) (one ∷ []) (minus-one ∷ []) ≡ inf false
   short : incentives 1 2 (one ∷ []) (one ∷ []) (one ∷ []) ≡ inf false
@@ -101,15 +101,15 @@ record Computed : Type 0 where
   over : verdictOf 2 2 first second at-start half ≡ false
   minus-tolerance : verdictOf 2 2 first second at-end minus-zero ≡ true
   infinite-tolerance : verdictOf 2 2 first second at-end (inf false) ≡ false
-  -- matching pennies has the value 0, and no other; the vectors are its solution
+  -- matching pennies has the value 0, and no other; the vectors are its solution; −0.0 is a tolerance
   value : minimax 2 2 pennies halves halves (claim zero zero) ≡ true
   other-value : minimax 2 2 pennies halves halves (claim one zero) ≡ false
   other-vector : minimax 2 2 pennies halves (one ∷ zero ∷ []) (claim zero zero) ≡ false
-  -- value − tolerance is rounded, here down to the payoff
-  rounded : minimax 1 1 (below-one ∷ []) (one ∷ []) (one ∷ []) (claim one small) ≡ true
-  unbounded : minimax 1 1 (huge ∷ []) (one ∷ []) (one ∷ []) (claim huge huge) ≡ true
   minus-claim : minimax 2 2 pennies halves halves (claim minus-zero minus-zero) ≡ true
+  -- value − tolerance is rounded, here down to the payoff; value + tolerance may be an infinity, which passes
+  rounded : minimax 1 1 (below-one ∷ []) (one ∷ []) (one ∷ []) (claim one small) ≡ true
   exactly : minimax 1 1 (below-one ∷ []) (one ∷ []) (one ∷ []) (claim one zero) ≡ false
+  unbounded : minimax 1 1 (huge ∷ []) (one ∷ []) (one ∷ []) (claim huge huge) ≡ true
 
 computed : Computed
 unfolding flatMap Ieee.ofBits Ieee.add Ieee.sub Ieee.mul Ieee.neg Ieee.lt finite distance wellFormed answerOf gains incentives verdictOf sumsToOne distribution claimed minimax minus-zero minus-one half two three huge minus-huge wide minus-wide below-one small first second at-start at-end pennies halves corner nothing claim
@@ -133,8 +133,8 @@ computed = record {
   value = refl;
   other-value = refl;
   other-vector = refl;
-  rounded = refl;
-  unbounded = refl;
   minus-claim = refl;
+  rounded = refl;
   exactly = refl;
+  unbounded = refl;
 }

@@ -39,9 +39,9 @@ below-minus-infinity (fin s m e) h = refl
 none : (e d : ℤ) → 0 * up e * down d ≡ 0
 none e d = rw (zero-mul (up e), zero-mul (down d))
 
-not-below : (m : ℕ) (e : ℤ) → lt (fin false m e) nought ≡ false
+not-below : (m : ℕ) (e : ℤ) → lt (fin false m e) (fin false 0 (pos 0)) ≡ false
 unfolding lt
-not-below m e = ap (lt (fin false m e)) zero-is ∙ le-ltb (m * up e * down (pos 0)) (0 * up (pos 0) * down e) (omega (arith, none (pos 0) e))
+not-below m e = le-ltb (m * up e * down (pos 0)) (0 * up (pos 0) * down e) (omega (arith, none (pos 0) e))
 
 below-is : (x : Float) → lt x (fin false 0 (pos 0)) ≡ true → neg x ≡ distance x
 unfolding lt neg distance
@@ -49,7 +49,7 @@ below-is nan h = refl
 below-is (inf true) h = refl
 below-is (inf false) h = absurd (true≢false (sym h))
 below-is (fin true m e) h = refl
-below-is (fin false m e) h = absurd (true≢false (sym h ∙ le-ltb (m * up e * down (pos 0)) (0 * up (pos 0) * down e) (omega (arith, none (pos 0) e))))
+below-is (fin false m e) h = absurd (true≢false (sym h ∙ not-below m e))
 
 -- nothing tells -0.0 from 0.0
 sign-of-zero : (y : Float) (e : ℤ) → lt y (fin true 0 e) ≡ lt y (fin false 0 e)
@@ -83,8 +83,8 @@ unfolding distance neg lt ofBits
 distance-law nan = (inl refl, refl)
 distance-law (inf true) = (inr refl, refl)
 distance-law (inf false) = (inl refl, refl)
-distance-law (fin true m e) = (inr refl, not-below m e)
-distance-law (fin false m e) = (inl refl, not-below m e)
+distance-law (fin true m e) = (inr refl, ap (lt (fin false m e)) zero-is ∙ not-below m e)
+distance-law (fin false m e) = (inl refl, ap (lt (fin false m e)) zero-is ∙ not-below m e)
 
 -- ---- bounds of which one is an infinity
 

@@ -48,6 +48,7 @@ pub record Gain {I : Type 0} (weight payoff : ℕ → I → Float) (others : Lis
   pub another : to ≡ from → ⊥
   pub is : x ≡ gain weight payoff others from to
 
+-- two tables and weights of the right sizes and lengths, of finite numbers, and no negative weight
 pub record WellFormed (m n : ℕ) (u1 u2 weights : List Float) : Type 0 where
   pub size : Sized m n
   pub first : Finites (m * n) u1
@@ -55,6 +56,7 @@ pub record WellFormed (m n : ℕ) (u1 u2 weights : List Float) : Type 0 where
   pub weighted : Finites (m * n) weights
   pub not-negative : NoneBelow zero weights
 
+-- a table, two vectors and a claim of the right sizes and lengths, of finite numbers, and no negative tolerance
 pub record Claimed (m n : ℕ) (payoffs p1 p2 : List Float) (claim : Claim) : Type 0 where
   pub size : Sized m n
   pub table : Finites (m * n) payoffs
@@ -68,6 +70,7 @@ pub record Distribution (p : List Float) (tolerance : Float) : Type 0 where
   pub entries : NoneBelow (neg tolerance) p
   pub whole : lt tolerance (distance (sub binary64 (roundedSum p) one)) ≡ false
 
+-- what makes the minimax check say yes
 pub record Minimax (m n : ℕ) (payoffs p1 p2 : List Float) (claim : Claim) : Type 0 where
   pub claimed : Claimed m n payoffs p1 p2 claim
   pub first : Distribution p1 (claim .tolerance)
