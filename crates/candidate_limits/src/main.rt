@@ -286,7 +286,7 @@ fn all_rows() {
     of_rows(usize::MAX, LENGTH, LENGTH, LENGTH, LENGTH);
 }
 
-// The product of the sizes, less 2^64 as often as it goes, is the length.
+// The length is the product of the sizes, less 2^64 as often as that goes.
 fn wrapped() {
     of_length(0x8000000000000000, 2, 0);
     of_length(2, 0x8000000000000000, 0);
@@ -391,7 +391,7 @@ fn vector_lengths() {
 
 // ---- one number in an argument, and zeros elsewhere
 
-// In each table, at a place, with and without the others; 1.0 takes a vector's sum of 0.0.
+// In each table. The tolerance 1.0 takes a vector's sum of 0.0.
 fn in_tables(x: f64, m: usize, n: usize, cells: usize, at: usize) {
     let zeros = [0.0; 6];
     let numbers = placed(at, x);
@@ -619,8 +619,8 @@ fn of_column(a: f64, b: f64, c: f64, x: f64, y: f64, z: f64, v: f64, t: f64) {
     end();
 }
 
-// A sum of which the order counts (descending, -1 - 2^-52); 1.5 × 10^308, infinity and NaN; and the last two but for NaN, negated, where
-// value - tolerance is -infinity.
+// A sum of which the order counts (descending, -1 - 2^-52); 1.5 × 10^308, infinity and a NaN; and the first two negated, where value -
+// tolerance is -infinity.
 fn columns() {
     let tiny = 4.0 * TINY;
     let a = HUGE;
