@@ -5,7 +5,7 @@ use mathlib.Core.List.{List}
 use mathlib.Core.Option.{none, some}
 use Prim.Native.Nat.{ℕ}
 use Rattle.refusal.specs.Refusal.{Refusal, _then_}
-use Rattle.refusal.specs.Told.{Told, values, toldUnit, unless}
+use Rattle.refusal.specs.Told.{Told, values, toldUnit, unless, status}
 use Rattle.refusal.proofs.Told.{told-values}
 use lib.ListN.{take, drop}
 use lib.Ieee.{Float}
@@ -13,7 +13,7 @@ use Rattle.table.specs.Table.{profilePart}
 use Rattle.table.specs.Checks.{tableRefusal, profileRefusal}
 use Rattle.table.specs.Answers.{spaceOf, spaceUnless, profilePayoffs}
 use Rattle.table.specs.declared.SpaceResult.{SpaceResult}
-use Rattle.exports.specs.Status.{status, output, beside, partStart, partLength}
+use Rattle.exports.specs.Status.{output, beside, partStart, partLength}
 
 -- an answer t told into an output, where t is u
 pub told-into : {A : Type 0} (t u : Told A) (n : ℕ) (new old : A) → t ≡ u → (n ≡ status t) × (new ≡ output t old) → (n ≡ status u) × (new ≡ output u old)

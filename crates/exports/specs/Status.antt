@@ -1,4 +1,5 @@
--- How a call tells its answer to C: a status, and outputs that hold the values or, refused, what they held. Assumes nothing.
+-- How a call tells its answer to C: a status, which is `refusal`'s, and outputs that hold the values or, refused, what they held.
+-- Assumes nothing.
 use mathlib.Core.List.{List}
 use Prim.Native.Nat.{ℕ, _*_}
 use lib.ListN.{length}
@@ -8,16 +9,10 @@ use Rattle.refusal.specs.Told.{Told, values, refused, unless}
 use Rattle.table.specs.Table.{offset}
 use Rattle.table.specs.Checks.{tableRefusal, profileRefusal}
 
-module _ {A : Type 0} where
-  -- 0, or the refusal's number
-  abbrev pub status : Told A → ℕ
-  status (values v) = 0
-  status (refused n) = n
-
-  -- what an output is left with: the value told, or what it held before
-  abbrev pub output : Told A → A → A
-  output (values v) old = v
-  output (refused n) old = old
+-- what an output is left with: the value told, or what it held before
+abbrev pub output : {A : Type 0} → Told A → A → A
+output (values v) old = v
+output (refused n) old = old
 
 -- what an output beside an answer is left with: v where values are told, or what it held before
 abbrev pub beside : {A B : Type 0} → Told A → B → B → B

@@ -14,7 +14,7 @@ use utility::UtilityResult;
 ghost use mathlib.Core.Path.{_≡_};
 ghost use Rattle.game.specs.Finite.{all};
 ghost use lib.ListN.{length};
-ghost use Rattle.refusal.specs.Told.{toldUnit, toldUsize, toldBool, unless};
+ghost use Rattle.refusal.specs.Told.{toldUnit, toldUsize, toldBool, unless, status};
 ghost use Rattle.utility.specs.Order.{finite};
 ghost use Rattle.utility.specs.Value.{utilityAnswer, toldUtility};
 ghost use Rattle.table.specs.Step.{step};
@@ -25,7 +25,7 @@ ghost use Rattle.best_response.specs.Answers.{responseUtilities, responsesAnswe
 ghost use Rattle.pure_nash.specs.Answers.{isEquilibriumAnswer, countAnswer, equilibriaAnswer, equilibriaChoices, equilibriaUtilities};
 ghost use Rattle.strict_dominance.specs.Answers.{strategiesOf, dominatorsOf, dominatedAnswer, dominatedWritten};
 ghost use Rattle.candidates.specs.Checks.{incentives, verdictOf, minimax};
-ghost use Rattle.exports.specs.Status.{status, output, beside, partStart, partLength};
+ghost use Rattle.exports.specs.Status.{output, beside, partStart, partLength};
 
 // ---- an answer into its outputs
 

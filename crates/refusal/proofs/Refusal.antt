@@ -55,9 +55,16 @@ placed TrailingWord = refl
 pub number-once : (d e : NormalFormError) → numberOf d ≡ numberOf e → d ≡ e
 number-once d e h = sym (placed d) ∙ ap (λ (n : ℕ). getD (NoPlayers ∷ table) n NoPlayers) h ∙ placed e
 
+-- and no number is 0
+pub number-some : (e : NormalFormError) → numberOf e ≡ 0 → ⊥
+number-some e h =
+    let is : NoPlayers ≡ e = sym (ap (λ (n : ℕ). getD (NoPlayers ∷ table) n NoPlayers) h) ∙ placed e in
+    let one : 1 ≡ numberOf e = ap numberOf is in
+    omega (arith, one)
+
 -- ---- the order of refusals
 
-some-none : (e : NormalFormError) → some e ≡ none → ⊥
+pub some-none : (e : NormalFormError) → some e ≡ none → ⊥
 some-none e h = let z : _≡_ {A = ℕ} 0 1 = cc in omega arith
 
 -- `when b e` is none exactly where the test fails

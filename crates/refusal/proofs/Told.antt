@@ -1,19 +1,21 @@
 -- What a caller knows once it knows what an answer told: which refusal applies, or none and the values; and the answer itself.
 -- Assumes nothing.
 use mathlib.Core.Path.{_≡_, refl, sym, ap, _∙_}
+use mathlib.Core.Logic.{_↔_}
 use mathlib.Core.Option.{none, some}
 use Prim.Native.Nat.{ℕ}
 use native.Mathlib.Omega.{arith}
+use lib.Dec.{T}
 use Rattle.refusal.specs.Refusal.{Refusal, numberOf, _then_}
 use Rattle.refusal.specs.declared.NormalFormError.{NormalFormError}
-use Rattle.refusal.specs.Told.{values, refused, unless, toldUnit, toldUsize, toldBool}
+use Rattle.refusal.specs.Told.{values, refused, unless, status, tells, toldUnit, toldUsize, toldBool}
 use Rattle.refusal.specs.declared.UnitResult.{UnitResult}
 use Rattle.refusal.specs.declared.UnitResult.the-variants.{Ok as ok, Err as err}
 use Rattle.refusal.specs.declared.UsizeResult.{UsizeResult}
 use Rattle.refusal.specs.declared.UsizeResult.the-variants.{Ok, Err}
 use Rattle.refusal.specs.declared.BoolResult.{BoolResult}
 use Rattle.refusal.specs.declared.BoolResult.the-variants.{Ok as okBool, Err as errBool}
-use Rattle.refusal.proofs.Refusal.{number-once}
+use Rattle.refusal.proofs.Refusal.{number-once, number-some, some-none}
 
 module _ {A : Type 0} where
   -- values are no refusal
@@ -38,6 +40,15 @@ module _ {A : Type 0} where
     -- and whatever refusals were to follow
     pub refused-first : (s : Refusal) → refused n ≡ unless (r then s) w
     refused-first s = let t = told-refused r v n h in ap (λ (m : ℕ). refused m) (t .2) ∙ sym (ap (λ (q : Refusal). unless (q then s) w) (t .1))
+
+  -- the status is 0, and values are told, exactly where no refusal applies
+  pub status-law : (r : Refusal) (v : A) → (status (unless r v) ≡ 0) ↔ (r ≡ none)
+  status-law none v = (λ h. refl, λ h. refl)
+  status-law (some e) v = (λ h. absurd (number-some e h), λ h. absurd (some-none e h))
+
+  pub tells-law : (r : Refusal) (v : A) → T (tells (unless r v)) ↔ (r ≡ none)
+  tells-law none v = (λ h. refl, λ h. tt)
+  tells-law (some e) v = (λ h. absurd h, λ h. absurd (some-none e h))
 
 -- ---- what was told determines the answer, since each refusal has a number of its own
 

@@ -1,6 +1,6 @@
 -- What an answer tells: values, or a refusal's number alone. Every contract of the library speaks of answers through this type.
 -- Assumes nothing.
-use mathlib.Core.Bool.{Bool}
+use mathlib.Core.Bool.{Bool, true, false}
 use mathlib.Core.Option.{Option, none, some}
 use Prim.Native.Nat.{ℕ}
 use Rattle.refusal.specs.Refusal.{Refusal, numberOf}
@@ -22,6 +22,16 @@ pub data Told (A : Type 0) : Type 0 where
 abbrev pub unless : {A : Type 0} → Refusal → A → Told A
 unless none v = values v
 unless (some e) v = refused (numberOf e)
+
+-- what an answer tells as one number: 0, or the refusal's
+abbrev pub status : {A : Type 0} → Told A → ℕ
+status (values v) = 0
+status (refused n) = n
+
+-- whether it tells values
+abbrev pub tells : {A : Type 0} → Told A → Bool
+tells (values v) = true
+tells (refused n) = false
 
 -- what the code's answers tell
 abbrev pub toldUnit : UnitResult → Told (Unit {0})

@@ -149,12 +149,12 @@ offset-choice {cs = c ∷ cs} {x = s ∷ x} (suc p) r l =
 -- ---- the k-th profile
 
 module _ {A B : Type 0} where
-  getD-map : (f : A → B) (xs : List A) (i : ℕ) (a : A) (b : B) → i < length xs → getD (map f xs) i b ≡ f (getD xs i a)
+  pub getD-map : (f : A → B) (xs : List A) (i : ℕ) (a : A) (b : B) → i < length xs → getD (map f xs) i b ≡ f (getD xs i a)
   getD-map f [] i a b h = absurd (not-suc-le-zero h)
   getD-map f (x ∷ xs) zero a b h = refl
   getD-map f (x ∷ xs) (suc i) a b h = getD-map f xs i a b (le-of-suc-le-suc h)
 
-  getD-flatMap : (f : A → List B) (n : ℕ) → ((a : A) → length (f a) ≡ n) → (xs : List A) (i j : ℕ) (a : A) (b : B)
+  pub getD-flatMap : (f : A → List B) (n : ℕ) → ((a : A) → length (f a) ≡ n) → (xs : List A) (i j : ℕ) (a : A) (b : B)
       → i < length xs → j < n → getD (flatMap f xs) (i * n + j) b ≡ getD (f (getD xs i a)) j b
   unfolding flatMap
   getD-flatMap f n e [] i j a b h k = absurd (not-suc-le-zero h)
@@ -163,7 +163,7 @@ module _ {A B : Type 0} where
       let q : suc i * n + j ≡ length (f x) + (i * n + j) = omega (arith, suc-mul i n, e x) in
       rw (q, getD-append-add) (getD-flatMap f n e xs i j a b (le-of-suc-le-suc h) k)
 
-getD-below : (n i : ℕ) → i < n → getD (below n) i 0 ≡ i
+pub getD-below : (n i : ℕ) → i < n → getD (below n) i 0 ≡ i
 getD-below zero i h = absurd (not-suc-le-zero h)
 getD-below (suc n) zero h = refl
 getD-below (suc n) (suc i) h =

@@ -20,7 +20,7 @@ use Rattle.table.specs.Limits.{maxPlayers}
 use Rattle.table.specs.Answers.{places, spaceOf, spaceUnless, spaceResult}
 
 -- past its end a list of counts has 0
-past : (cs : List ℕ) (p : ℕ) → length cs ≤ p → getD cs p 0 ≡ 0
+pub past : (cs : List ℕ) (p : ℕ) → length cs ≤ p → getD cs p 0 ≡ 0
 past [] p h = refl
 past (c ∷ cs) zero h = absurd (omega arith)
 past (c ∷ cs) (suc p) h = past cs p (le-of-suc-le-suc h)
@@ -35,7 +35,7 @@ with-zeros [] n p = zeros n p
 with-zeros (c ∷ cs) n zero = refl
 with-zeros (c ∷ cs) n (suc p) = with-zeros cs n p
 
-places-length : (cs : List ℕ) → length (places cs) ≡ maxPlayers
+pub places-length : (cs : List ℕ) → length (places cs) ≡ maxPlayers
 places-length cs = rw (length-take, length-append) (min-eq-left (omega arith))
 
 -- ---- the law

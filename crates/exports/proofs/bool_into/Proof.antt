@@ -1,9 +1,9 @@
 -- `exports::bool_into` meets its contract, by the two cases of the answer. Assumes nothing.
 use mathlib.Core.Path.{sym, ap, _∙_}
 use borrow.Author.Needs.{needs}
-use Rattle.refusal.specs.Told.{toldBool}
+use Rattle.refusal.specs.Told.{toldBool, status}
 use Rattle.refusal.specs.declared.BoolResult.{BoolResult}
-use Rattle.exports.specs.Status.{status, output}
+use Rattle.exports.specs.Status.{output}
 use Rattle.exports.proofs.bool_into.Statement.{statement}
 use Rattle.exports.proofs.bool_into.Tie as tie
 

@@ -7,12 +7,12 @@ use borrow.Author.Needs.{needs}
 use lib.ListN.{length}
 use lib.Ieee.{Float}
 use Rattle.refusal.specs.Refusal.{Refusal, _then_}
-use Rattle.refusal.specs.Told.{toldUsize, unless}
+use Rattle.refusal.specs.Told.{toldUsize, unless, status}
 use Rattle.refusal.proofs.Told.{told-refused}
 use Rattle.table.specs.Table.{offset}
 use Rattle.table.specs.Checks.{tableRefusal, profileRefusal}
 use Rattle.table.proofs.Table.{PartTold, part-told}
-use Rattle.exports.specs.Status.{status, output}
+use Rattle.exports.specs.Status.{output}
 use Rattle.exports.proofs.sigvanyor_profile_payoffs.Statement.{statement}
 use Rattle.exports.proofs.sigvanyor_profile_payoffs.Tie as tie
 

@@ -1,9 +1,9 @@
 -- `exports::space_into` meets its contract, by the two cases of the answer. Assumes nothing.
 use mathlib.Core.Path.{sym, ap, _∙_}
 use borrow.Author.Needs.{needs}
-use Rattle.refusal.specs.Told.{toldUnit}
+use Rattle.refusal.specs.Told.{toldUnit, status}
 use Rattle.refusal.specs.declared.UnitResult.{UnitResult}
-use Rattle.exports.specs.Status.{status, beside}
+use Rattle.exports.specs.Status.{beside}
 use Rattle.exports.proofs.space_into.Statement.{statement}
 use Rattle.exports.proofs.space_into.Tie as tie
 

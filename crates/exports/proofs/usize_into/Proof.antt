@@ -1,9 +1,9 @@
 -- `exports::usize_into` meets its contract, by the two cases of the answer. Assumes nothing.
 use mathlib.Core.Path.{sym, ap, _∙_}
 use borrow.Author.Needs.{needs}
-use Rattle.refusal.specs.Told.{toldUsize}
+use Rattle.refusal.specs.Told.{toldUsize, status}
 use Rattle.refusal.specs.declared.UsizeResult.{UsizeResult}
-use Rattle.exports.specs.Status.{status, output}
+use Rattle.exports.specs.Status.{output}
 use Rattle.exports.proofs.usize_into.Statement.{statement}
 use Rattle.exports.proofs.usize_into.Tie as tie
 

@@ -3,7 +3,8 @@ use mathlib.Core.Path.{sym, ap, _∙_}
 use borrow.Author.Needs.{needs}
 use Rattle.utility.specs.Value.{toldUtility}
 use Rattle.utility.specs.declared.UtilityResult.{UtilityResult}
-use Rattle.exports.specs.Status.{status, output}
+use Rattle.refusal.specs.Told.{status}
+use Rattle.exports.specs.Status.{output}
 use Rattle.exports.proofs.utility_into.Statement.{statement}
 use Rattle.exports.proofs.utility_into.Tie as tie
 

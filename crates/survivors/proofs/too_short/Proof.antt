@@ -1,0 +1,17 @@
+-- `survivors::too_short` meets its contract: the survivors of a space without players are those of no counts. Assumes nothing.
+use mathlib.Core.Path.{refl}
+use mathlib.Core.List.{[]}
+use native.Mathlib.Omega.{arith}
+use borrow.Author.Needs.{needs}
+use Rattle.survivors.proofs.Marks.{fresh-is}
+use Rattle.survivors.proofs.too_short.Statement.{statement}
+use Rattle.survivors.proofs.too_short.Tie as tie
+
+all-marked-requires : tie.Need-all-marked-requires
+all-marked-requires c κs = search needs
+
+returns : tie.Need-returns
+returns c = let e = c .all-marked .ensures in (refl, fresh-is [] (c .all-marked .result) (omega arith) (e .0) (e .1) (e .2))
+
+pub too-short-spec : {M : Type 1} → statement M
+too-short-spec = tie.close (tie.spec all-marked-requires returns)

@@ -1,0 +1,5 @@
+-- The definitions of this crate, to be read in this order.
+pub mod Survivors
+pub mod Answers
+pub mod Meaning
+pub mod Demand3
