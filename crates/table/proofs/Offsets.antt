@@ -10,7 +10,7 @@ use native.Mathlib.Omega.{arith}
 use lib.Arith.{digits-lt, digits-div}
 use lib.ListN.{length, getD, set, take, drop, replicate, length-map, take-append-drop, List·getD-append, List·getD-eq-default}
 use lib.Seq.{take-suc, drop-cons, drop-length, getD-append-add}
-use Rattle.game.specs.Finite.{_∈_, below, product}
+use Rattle.game.specs.Finite.{_∈_, below, product, Sorted}
 use Rattle.game.specs.Game.{choice, Profile, profiles, Earlier}
 use Rattle.game.proofs.Finite.{length-below}
 use Rattle.game.proofs.Game.{tail-profile, profiles-law, length-profiles, set-profile}
@@ -174,6 +174,13 @@ getD-mem [] i d h = absurd (not-suc-le-zero h)
 getD-mem (x ∷ xs) zero d h = here refl
 getD-mem (x ∷ xs) (suc i) d h = there (getD-mem xs i d (le-of-suc-le-suc h))
 
+sorted-nth : {A : Type 0} (R : A → A → Type 0) (xs : List A) (i j : ℕ) (d : A) → Sorted R xs → i < j → j < length xs
+    → R (getD xs i d) (getD xs j d)
+sorted-nth R [] i j d s l h = absurd (not-suc-le-zero h)
+sorted-nth R (x ∷ xs) i zero d s l h = absurd (not-suc-le-zero l)
+sorted-nth R (x ∷ xs) zero (suc j) d s l h = s .0 (getD xs j d) (getD-mem xs j d (le-of-suc-le-suc h))
+sorted-nth R (x ∷ xs) (suc i) (suc j) d s l h = sorted-nth R xs i j d (s .1) (le-of-suc-le-suc l) (le-of-suc-le-suc h)
+
 -- The first choice of the profile at s × (product of the other counts) + j is s, and its rest is the j-th of the players after.
 pub nth-cons : (c s j : ℕ) (cs : List ℕ) → s < c → j < product cs
     → getD (profiles (c ∷ cs)) (s * product cs + j) [] ≡ s ∷ getD (profiles cs) j []
@@ -193,6 +200,10 @@ digits c n k h =
 -- The k-th profile is a profile.
 pub nth-profile : (cs : List ℕ) (k : ℕ) → k < product cs → Profile cs (getD (profiles cs) k [])
 nth-profile cs k h = profiles-law cs .members (getD (profiles cs) k []) .0 (getD-mem (profiles cs) k [] (rw length-profiles h))
+
+-- A lower offset has an earlier profile.
+pub nth-earlier : (cs : List ℕ) (j k : ℕ) → j < k → k < product cs → Earlier (getD (profiles cs) j []) (getD (profiles cs) k [])
+nth-earlier cs j k l h = sorted-nth Earlier (profiles cs) j k [] (profiles-law cs .sorted) l (rw length-profiles h)
 
 -- The k-th profile has offset k,
 pub offset-nth : (cs : List ℕ) (k : ℕ) → k < product cs → offset cs (getD (profiles cs) k []) ≡ k
