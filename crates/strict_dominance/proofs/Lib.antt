@@ -1,5 +1,5 @@
 -- The laws of this crate's definitions.
-pub mod Seen
+pub mod Next
 pub mod Rows
 pub mod Dominated
 pub mod Meaning

@@ -1,7 +1,7 @@
 -- The rows of a player's cells, one for each choice of the others: where each row starts, that the walk meets every start, and what a walk
--- over the starts says of two strategies. Assumes nothing.
+-- over the starts, or over those where the others' choices are marked, says of two strategies. Assumes nothing.
 use mathlib.Core.Path.{_≡_, refl, sym, ap, _∙_, subst}
-use mathlib.Core.Bool.{Bool}
+use mathlib.Core.Bool.{Bool, false}
 use mathlib.Core.List.{List, []}
 use mathlib.Core.Logic.{_≢_, ⊎-elim}
 use Prim.Native.Nat.{ℕ, suc, _+_, _*_, _-_, _/_, _%_, _≤_, _<_}
@@ -13,17 +13,17 @@ use lib.ListN.{length, getD, set}
 use lib.Seq.{getD-set-same, getD-set-other}
 use lib.Ieee.{Float}
 use Rattle.game.specs.Finite.{product}
-use Rattle.game.specs.Game.{Profile, profiles}
+use Rattle.game.specs.Game.{choice, Profile, profiles}
 use Rattle.game.specs.Meaning.{Dominator}
 use Rattle.game.proofs.Finite.{le-or-lt}
 use Rattle.game.proofs.Game.{set-profile}
-use Rattle.table.specs.Limits.{maxPlayers, maxStrategies, maxCells}
+use Rattle.table.specs.Limits.{maxPlayers, maxStrategies, maxCells, maxMarks}
 use Rattle.table.specs.Table.{cells, offset, stride, cellRank, tableGame}
 use Rattle.table.specs.Marks.{marked}
 use Rattle.table.specs.Meaning.{Shape, Table}
-use Rattle.table.proofs.Offsets.{product-drop, drop-at-most, stride-positive, offset-below, offset-choice, nth-profile, nth-offset}
-use Rattle.table.proofs.Walk.{shape-some, shape-room, row-inside, row-pay, row-start}
-use Rattle.strict_dominance.proofs.Seen.{Seen}
+use Rattle.table.proofs.Offsets.{product-drop, drop-at-most, stride-positive, offset-below, offset-choice, nth-choice, nth-profile, nth-offset}
+use Rattle.table.proofs.Walk.{shape-some, shape-room, row-inside, row-pay, row-start, mark-at, mark-inside}
+use Rattle.strict_dominance.specs.Rows.{Seen, MarkedRow, NextRow}
 
 -- ---- where rows start: for a player with c strategies and stride s, at the first s offsets of every c × s
 
@@ -105,6 +105,32 @@ pub record Row (cs : List ℕ) (payoffs : List Float) (p s b : ℕ) : Type 0 whe
   pub pays : (t : ℕ) → t < getD cs p 0
       → tableGame cs payoffs .pay p (set (getD (profiles cs) b []) p t) ≡ cellRank payoffs (b * length cs + p + t * (s * length cs))
 
+-- Where every place is marked, so are the others' choices in every profile.
+pub seen-whole : (cs : List ℕ) (marks : List Bool) (p k : ℕ) → Shape cs → k < product cs → ((i : ℕ) → i < maxMarks → T (getD marks i false))
+    → Seen cs (marked marks) p k
+seen-whole cs marks p k shape h all q l _ =
+    let s : ℕ = choice (getD (profiles cs) k []) q in
+    let under : s < maxStrategies = omega (arith, nth-profile cs k h .fits q l, shape .high q l) in
+    rw (mark-at marks q s under) (all (q * maxStrategies + s) (mark-inside q s (omega (arith, shape .few)) under))
+
+-- A row starts at b, and the others' choices there are marked.
+pub record Met (cs : List ℕ) (marks : List Bool) (p s b : ℕ) : Type 0 where
+  pub within : ℕ
+  pub start : Start s (getD cs p 0) b within
+  pub seen : Seen cs (marked marks) p b
+
+module _ {cs : List ℕ} (marks : List Bool) {p s b : ℕ} (e : s ≡ stride cs p) (mine : p < length cs) where
+  pub start-row : {w : ℕ} → Start s (getD cs p 0) b w → b < product cs → Seen cs (marked marks) p b → MarkedRow cs (marked marks) p b
+  start-row o h sees = record { inside = h; own = nth-choice cs b p h mine ∙ rw (← e) (start-choice o); seen = sees }
+
+  pub row-met : 0 < s → MarkedRow cs (marked marks) p b → Met cs marks p s b
+  row-met some r =
+      record {
+        within = b % s;
+        start = choice-start b some (rw e (sym (nth-choice cs b p (r .inside) mine) ∙ r .own));
+        seen = r .seen;
+      }
+
 -- ---- two strategies, row by row
 
 module _ (cs : List ℕ) (payoffs : List Float) (marks : List Bool) (p s i t : ℕ) where
@@ -123,6 +149,16 @@ module _ (cs : List ℕ) (payoffs : List Float) (marks : List Bool) (p s i t : �
 
   pub less-after : {b w : ℕ} → Start s (getD cs p 0) b w → 0 < getD cs p 0 → w + 1 ≡ s → LessTo (b + 1) → LessTo (b + 1 + (getD cs p 0 - 1) * s)
   less-after a some last all d v o h = all d v o (omega (arith, none-between a some last d v o h))
+
+  -- from marked row to marked row
+  module _ (e : s ≡ stride cs p) (mine : p < length cs) where
+    pub less-first : (r : ℕ) → NextRow cs (marked marks) p 0 r → LessTo r
+    less-first r n d v o h sees = absurd (n .none-before d (omega arith) h (start-row marks e mine o (omega (arith, n .most)) sees))
+
+    pub less-next : (b r : ℕ) → LessTo b → Less b → NextRow cs (marked marks) p (b + 1) r → LessTo r
+    less-next b r all here n d v o h =
+        ⊎-elim (λ (l : d ≤ b). less-beside b all here d v o (omega arith))
+        (λ (l : b < d) sees. absurd (n .none-before d (omega arith) h (start-row marks e mine o (omega (arith, n .most)) sees))) (le-or-lt d b)
 
 module _ {cs : List ℕ} {payoffs : List Float} (table : Table cs payoffs) (p s : ℕ) (mine : p < length cs) (e : s ≡ stride cs p) where
   pub row : {b w : ℕ} → Start s (getD cs p 0) b w → b < product cs → Row cs payoffs p s b
