@@ -1,13 +1,16 @@
 -- How a call tells its answer to C: a status, which is `refusal`'s, and outputs that hold the values or, refused, what they held.
 -- Assumes nothing.
-use mathlib.Core.List.{List}
+use mathlib.Core.Bool.{Bool, true, false, not}
+use mathlib.Core.List.{List, map}
 use Prim.Native.Nat.{ℕ, _*_}
+use lib.Dec.{eqb}
 use lib.ListN.{length}
 use lib.Ieee.{Float}
 use Rattle.refusal.specs.Refusal.{_then_}
 use Rattle.refusal.specs.Told.{Told, values, refused, unless}
 use Rattle.table.specs.Table.{offset}
 use Rattle.table.specs.Checks.{tableRefusal, profileRefusal}
+use Rattle.survivors.specs.declared.Survivors.{Survivors}
 
 -- what an output is left with: the value told, or what it held before
 abbrev pub output : {A : Type 0} → Told A → A → A
@@ -25,3 +28,17 @@ partStart counts payoffs x = unless (tableRefusal counts payoffs then profileRef
 
 abbrev pub partLength : List ℕ → List Float → List ℕ → Told ℕ
 partLength counts payoffs x = unless (tableRefusal counts payoffs then profileRefusal counts x) (length counts)
+
+-- ---- survivors in C: P, the eight counts, and a byte for each mark
+
+-- the survivors that are handed in: 0 is no mark, and any other byte is one
+unfoldable pub survivorsOf : ℕ → List ℕ → List ℕ → Survivors
+survivorsOf players counts bytes = record { players = players; counts = counts; marks = map (λ b. not (eqb b 0)) bytes }
+
+-- the bytes of marks: 1, or 0 for no mark
+abbrev pub byteOf : Bool → ℕ
+byteOf true = 1
+byteOf false = 0
+
+abbrev pub markBytes : Survivors → List ℕ
+markBytes v = map byteOf (v .marks)

@@ -6,13 +6,19 @@ use candidates::Claim;
 use refusal::BoolResult;
 use refusal::UnitResult;
 use refusal::UsizeResult;
+use survivors::Survivors;
+use table::MAX_MARKS;
 use table::MAX_PLAYERS;
 use table::SpaceResult;
 use table::StrategySpace;
 use utility::Utility;
 use utility::UtilityResult;
 ghost use mathlib.Core.Path.{_≡_};
+ghost use mathlib.Core.Bool.{not};
+ghost use mathlib.Core.List.{map};
+ghost use lib.Dec.{eqb};
 ghost use Rattle.game.specs.Finite.{all};
+ghost use Rattle.game.specs.Game.{strategy as named};
 ghost use lib.ListN.{length};
 ghost use Rattle.refusal.specs.Told.{toldUnit, toldUsize, toldBool, unless, status};
 ghost use Rattle.utility.specs.Order.{finite};
@@ -24,8 +30,10 @@ ghost use Rattle.table.specs.Outputs.{over};
 ghost use Rattle.best_response.specs.Answers.{responseUtilities, responsesAnswer, responsesWritten};
 ghost use Rattle.pure_nash.specs.Answers.{isEquilibriumAnswer, countAnswer, equilibriaAnswer, equilibriaChoices, equilibriaUtilities};
 ghost use Rattle.strict_dominance.specs.Answers.{strategiesOf, dominatorsOf, dominatedAnswer, dominatedWritten};
+ghost use Rattle.survivors.specs.Survivors.{freshOf};
+ghost use Rattle.survivors.specs.Answers.{strikeAnswer, strikeLeaves, survivingAnswer, survivingChoices, survivingUtilities, callsOf, dominatorOf, strikesAnswer, strikesLeave, strikesWritten};
 ghost use Rattle.candidates.specs.Checks.{incentives, verdictOf, minimax};
-ghost use Rattle.exports.specs.Status.{output, beside, partStart, partLength};
+ghost use Rattle.exports.specs.Status.{output, beside, partStart, partLength, survivorsOf, byteOf, markBytes};
 
 // ---- an answer into its outputs
 
@@ -92,6 +100,66 @@ fn space_into(
         }
         UnitResult::Err(e) => e.number(),
     }
+}
+
+// ---- survivors, as C holds them
+
+// The marks of bytes: 0 is no mark, and any other byte is one.
+fn marks_of(bytes: [u8; MAX_MARKS]) -> [bool; MAX_MARKS]
+    ensures { λ r. ⌜ r ≡ map (λ b. not (eqb b 0)) bytes ⌝ }
+{
+    let mut marks = [true; MAX_MARKS];
+    let mut i: usize = 0;
+    while i < MAX_MARKS {
+        marks[i] = bytes[i] != 0;
+        i += 1;
+    }
+    marks
+}
+
+// The bytes of marks: 1, or 0 for no mark.
+fn bytes_of(marks: [bool; MAX_MARKS]) -> [u8; MAX_MARKS]
+    ensures { λ r. ⌜ r ≡ map byteOf marks ⌝ }
+{
+    let mut bytes = [0u8; MAX_MARKS];
+    let mut i: usize = 0;
+    while i < MAX_MARKS {
+        bytes[i] = marks[i] as u8;
+        i += 1;
+    }
+    bytes
+}
+
+// The survivors that C hands in.
+fn survivors_of(players: usize, counts: &[usize; MAX_PLAYERS], marks: &[u8; MAX_MARKS]) -> Survivors
+    ensures { λ r. ⌜ r ≡ survivorsOf players (now (counts .entry)) (now (marks .entry)) ⌝ }
+{
+    let held = *counts;
+    let bytes = *marks;
+    Survivors {
+        players: players,
+        counts: held,
+        marks: marks_of(bytes),
+    }
+}
+
+// Survivors into `players`, `counts` and `marks`.
+fn survivors_into(
+    survivors: Survivors,
+    players: &mut usize,
+    counts: &mut [usize; MAX_PLAYERS],
+    marks: &mut [u8; MAX_MARKS],
+)
+    ensures { λ r. ⌜ now (players .exit) ≡ survivors .players ⌝ }
+    ensures { λ r. ⌜ now (counts .exit) ≡ survivors .counts ⌝ }
+    ensures { λ r. ⌜ now (marks .exit) ≡ markBytes survivors ⌝ }
+{
+    let held = survivors.counts;
+    let left = survivors.marks;
+    let bytes = bytes_of(left);
+    *players = survivors.players;
+    *counts = held;
+    *marks = bytes;
 }
 
 // ---- the calls
@@ -310,6 +378,124 @@ pub extern "C" fn sigvanyor_strictly_dominated_strategies(
         dominators,
     );
     usize_into(answer, number)
+}
+
+// `fresh`: P, the counts with 0 from P on and the marks of the table's fresh survivors into the last three outputs, or 1 to 7.
+#[no_mangle]
+pub extern "C" fn sigvanyor_fresh(
+    counts: &[usize],
+    payoffs: &[f64],
+    survivors_players: &mut usize,
+    survivors_counts: &mut [usize; MAX_PLAYERS],
+    survivors_marks: &mut [u8; MAX_MARKS],
+) -> u32
+    ensures { λ r. ⌜ r ≡ status (unless (tableRefusal (now (counts .entry)) (now (payoffs .entry))) (freshOf (now (counts .entry)))) ⌝ }
+    ensures { λ r. ⌜ now («survivors_players» .exit) ≡ output (unless (tableRefusal (now (counts .entry)) (now (payoffs .entry))) (freshOf (now (counts .entry)) .players)) (now («survivors_players» .entry)) ⌝ }
+    ensures { λ r. ⌜ now («survivors_counts» .exit) ≡ output (unless (tableRefusal (now (counts .entry)) (now (payoffs .entry))) (freshOf (now (counts .entry)) .counts)) (now («survivors_counts» .entry)) ⌝ }
+    ensures { λ r. ⌜ now («survivors_marks» .exit) ≡ output (unless (tableRefusal (now (counts .entry)) (now (payoffs .entry))) (markBytes (freshOf (now (counts .entry))))) (now («survivors_marks» .entry)) ⌝ }
+{
+    let made = survivors::fresh(counts, payoffs);
+    let answer = made.answer;
+    let left = made.survivors;
+    match answer {
+        UnitResult::Ok => {
+            survivors_into(left, survivors_players, survivors_counts, survivors_marks);
+            0
+        }
+        UnitResult::Err(e) => e.number(),
+    }
+}
+
+// `strike`: the lowest dominator into `dominator` and the survivors' marks into `survivors_marks`, or 1 to 7, 16, 8, 14, 15.
+#[no_mangle]
+pub extern "C" fn sigvanyor_strike(
+    counts: &[usize],
+    payoffs: &[f64],
+    survivors_players: usize,
+    survivors_counts: &[usize; MAX_PLAYERS],
+    survivors_marks: &mut [u8; MAX_MARKS],
+    player: usize,
+    strategy: usize,
+    dominator: &mut usize,
+) -> u32
+    ensures { λ r. ⌜ r ≡ status (strikeAnswer (now (counts .entry)) (now (payoffs .entry)) (survivorsOf «survivors_players» (now («survivors_counts» .entry)) (now («survivors_marks» .entry))) (named player strategy)) ⌝ }
+    ensures { λ r. ⌜ now (dominator .exit) ≡ output (strikeAnswer (now (counts .entry)) (now (payoffs .entry)) (survivorsOf «survivors_players» (now («survivors_counts» .entry)) (now («survivors_marks» .entry))) (named player strategy)) (now (dominator .entry)) ⌝ }
+    ensures { λ r. ⌜ now («survivors_marks» .exit) ≡ beside (strikeAnswer (now (counts .entry)) (now (payoffs .entry)) (survivorsOf «survivors_players» (now («survivors_counts» .entry)) (now («survivors_marks» .entry))) (named player strategy)) (markBytes (strikeLeaves (now (counts .entry)) (now (payoffs .entry)) (survivorsOf «survivors_players» (now («survivors_counts» .entry)) (now («survivors_marks» .entry))) (named player strategy))) (now («survivors_marks» .entry)) ⌝ }
+{
+    let held = *survivors_marks;
+    let before = survivors_of(survivors_players, survivors_counts, &held);
+    let struck = survivors::strike(counts, payoffs, before, player, strategy);
+    let answer = struck.answer;
+    let left = struck.survivors;
+    match answer {
+        UsizeResult::Ok(t) => {
+            let marks = left.marks;
+            let bytes = bytes_of(marks);
+            *dominator = t;
+            *survivors_marks = bytes;
+            0
+        }
+        UsizeResult::Err(e) => e.number(),
+    }
+}
+
+// `surviving_equilibria`: the choices of each into `choices`, the payoffs into `utilities`, and how many there are into `number`, or 1 to 7,
+// 16, 13.
+#[no_mangle]
+pub extern "C" fn sigvanyor_surviving_equilibria(
+    counts: &[usize],
+    payoffs: &[f64],
+    survivors_players: usize,
+    survivors_counts: &[usize; MAX_PLAYERS],
+    survivors_marks: &[u8; MAX_MARKS],
+    choices: &mut [usize],
+    utilities: &mut [f64],
+    number: &mut usize,
+) -> u32
+    ensures { λ r. ⌜ r ≡ status (survivingAnswer (now (counts .entry)) (now (payoffs .entry)) (survivorsOf «survivors_players» (now («survivors_counts» .entry)) (now («survivors_marks» .entry))) (length (now (choices .entry))) (length (now (utilities .entry)))) ⌝ }
+    ensures { λ r. ⌜ now (number .exit) ≡ output (survivingAnswer (now (counts .entry)) (now (payoffs .entry)) (survivorsOf «survivors_players» (now («survivors_counts» .entry)) (now («survivors_marks» .entry))) (length (now (choices .entry))) (length (now (utilities .entry)))) (now (number .entry)) ⌝ }
+    ensures { λ r. ⌜ now (choices .exit) ≡ over (survivingChoices (now (counts .entry)) (now (payoffs .entry)) (survivorsOf «survivors_players» (now («survivors_counts» .entry)) (now («survivors_marks» .entry))) (length (now (choices .entry))) (length (now (utilities .entry)))) (now (choices .entry)) ⌝ }
+    ensures { λ r. ⌜ now (utilities .exit) ≡ over (survivingUtilities (now (counts .entry)) (now (payoffs .entry)) (survivorsOf «survivors_players» (now («survivors_counts» .entry)) (now («survivors_marks» .entry))) (length (now (choices .entry))) (length (now (utilities .entry)))) (now (utilities .entry)) ⌝ }
+{
+    let left = survivors_of(survivors_players, survivors_counts, survivors_marks);
+    let answer = survivors::surviving_equilibria(counts, payoffs, left, choices, utilities);
+    usize_into(answer, number)
+}
+
+// `strikes`: the answer to each strike into `answers`, its dominator into `dominators`, how many were accepted into `number`, and P, the counts
+// and the marks of the survivors into the last three outputs, or 1 to 7, 13.
+#[no_mangle]
+pub extern "C" fn sigvanyor_strikes(
+    counts: &[usize],
+    payoffs: &[f64],
+    players: &[usize],
+    strategies: &[usize],
+    answers: &mut [u32],
+    dominators: &mut [usize],
+    number: &mut usize,
+    survivors_players: &mut usize,
+    survivors_counts: &mut [usize; MAX_PLAYERS],
+    survivors_marks: &mut [u8; MAX_MARKS],
+) -> u32
+    ensures { λ r. ⌜ r ≡ status (strikesAnswer (now (counts .entry)) (now (payoffs .entry)) (callsOf (now (players .entry)) (now (strategies .entry))) (length (now (answers .entry))) (length (now (dominators .entry)))) ⌝ }
+    ensures { λ r. ⌜ now (number .exit) ≡ output (strikesAnswer (now (counts .entry)) (now (payoffs .entry)) (callsOf (now (players .entry)) (now (strategies .entry))) (length (now (answers .entry))) (length (now (dominators .entry)))) (now (number .entry)) ⌝ }
+    ensures { λ r. ⌜ now (answers .exit) ≡ over (map status (strikesWritten (now (counts .entry)) (now (payoffs .entry)) (callsOf (now (players .entry)) (now (strategies .entry))) (length (now (answers .entry))) (length (now (dominators .entry))))) (now (answers .entry)) ⌝ }
+    ensures { λ r. ⌜ now (dominators .exit) ≡ over (map dominatorOf (strikesWritten (now (counts .entry)) (now (payoffs .entry)) (callsOf (now (players .entry)) (now (strategies .entry))) (length (now (answers .entry))) (length (now (dominators .entry))))) (now (dominators .entry)) ⌝ }
+    ensures { λ r. ⌜ now («survivors_players» .exit) ≡ beside (strikesAnswer (now (counts .entry)) (now (payoffs .entry)) (callsOf (now (players .entry)) (now (strategies .entry))) (length (now (answers .entry))) (length (now (dominators .entry)))) (strikesLeave (now (counts .entry)) (now (payoffs .entry)) (callsOf (now (players .entry)) (now (strategies .entry))) (length (now (answers .entry))) (length (now (dominators .entry))) .players) (now («survivors_players» .entry)) ⌝ }
+    ensures { λ r. ⌜ now («survivors_counts» .exit) ≡ beside (strikesAnswer (now (counts .entry)) (now (payoffs .entry)) (callsOf (now (players .entry)) (now (strategies .entry))) (length (now (answers .entry))) (length (now (dominators .entry)))) (strikesLeave (now (counts .entry)) (now (payoffs .entry)) (callsOf (now (players .entry)) (now (strategies .entry))) (length (now (answers .entry))) (length (now (dominators .entry))) .counts) (now («survivors_counts» .entry)) ⌝ }
+    ensures { λ r. ⌜ now («survivors_marks» .exit) ≡ beside (strikesAnswer (now (counts .entry)) (now (payoffs .entry)) (callsOf (now (players .entry)) (now (strategies .entry))) (length (now (answers .entry))) (length (now (dominators .entry)))) (markBytes (strikesLeave (now (counts .entry)) (now (payoffs .entry)) (callsOf (now (players .entry)) (now (strategies .entry))) (length (now (answers .entry))) (length (now (dominators .entry))))) (now («survivors_marks» .entry)) ⌝ }
+{
+    let struck = survivors::strikes(counts, payoffs, players, strategies, answers, dominators);
+    let answer = struck.answer;
+    let left = struck.survivors;
+    match answer {
+        UsizeResult::Ok(n) => {
+            *number = n;
+            survivors_into(left, survivors_players, survivors_counts, survivors_marks);
+            0
+        }
+        UsizeResult::Err(e) => e.number(),
+    }
 }
 
 // `verify_correlated_equilibrium_incentives`: the greatest gain, or infinity.
