@@ -66,6 +66,41 @@ static void solvers(void) {
     expect("strictly_dominated_strategies", first[0] == 0 && first[1] == 1 && second[0] == 1 && second[1] == 9);
 }
 
+/* Survivors of the game of `solvers`: each one's first strategy is struck, by a call each and by a list. */
+static void strikes(void) {
+    const size_t counts[] = {2, 2}, players[] = {0, 1, 1, 2}, strategies[] = {0, 0, 0, 0};
+    const double payoffs[] = {2, 2, 0, 3, 3, 0, 1, 1};
+    const size_t second = SIGVANYOR_MAX_STRATEGIES;
+    sigvanyor_survivors left = {9, {9}, {7}};
+    size_t dominator = 99, number = 99, choices[3] = {9, 9, 9}, by[5] = {9, 9, 9, 9, 9};
+    uint32_t answers[5] = {9, 9, 9, 9, 9};
+    double utilities[3] = {-1, -1, -1};
+
+    expect("fresh", sigvanyor_fresh(counts, 2, payoffs, 7, &left.players, left.counts, left.marks) == 6);
+    expect("fresh", left.players == 9 && left.counts[0] == 9 && left.marks[0] == 7);
+    expect("fresh", sigvanyor_fresh(counts, 2, payoffs, 8, &left.players, left.counts, left.marks) == 0);
+    expect("fresh", left.players == 2 && left.counts[1] == 2 && left.counts[7] == 0);
+    expect("fresh", left.marks[0] == 1 && left.marks[1] == 1 && left.marks[2] == 0 && left.marks[second] == 1);
+    left.marks[second + 1] = 200;
+    expect("strike", sigvanyor_strike(counts, 2, payoffs, 8, 3, left.counts, left.marks, 0, 0, &dominator) == 16 && dominator == 99);
+    expect("strike", sigvanyor_strike(counts, 2, payoffs, 8, 2, left.counts, left.marks, 0, 1, &dominator) == 15 && dominator == 99);
+    expect("strike", left.marks[0] == 1 && left.marks[second + 1] == 200);
+    expect("strike", sigvanyor_strike(counts, 2, payoffs, 8, 2, left.counts, left.marks, 0, 0, &dominator) == 0 && dominator == 1);
+    expect("strike", left.marks[0] == 0 && left.marks[1] == 1 && left.marks[second] == 1 && left.marks[second + 1] == 1);
+    expect("surviving_equilibria", sigvanyor_surviving_equilibria(counts, 2, payoffs, 8, 2, left.counts, left.marks,
+                                                                  choices, 1, utilities, 3, &number) == 13 && choices[0] == 9);
+    expect("surviving_equilibria", sigvanyor_surviving_equilibria(counts, 2, payoffs, 8, 2, left.counts, left.marks,
+                                                                  choices, 3, utilities, 3, &number) == 0 && number == 1);
+    expect("surviving_equilibria", choices[0] == 1 && choices[1] == 1 && choices[2] == 9 && utilities[1] == 1 && utilities[2] == -1);
+    expect("strikes", sigvanyor_strikes(counts, 2, payoffs, 8, players, 4, strategies, 4, answers, 3, by, 5, &number,
+                                        &left.players, left.counts, left.marks) == 13 && answers[0] == 9 && left.marks[second] == 1);
+    expect("strikes", sigvanyor_strikes(counts, 2, payoffs, 8, players, 4, strategies, 4, answers, 5, by, 5, &number,
+                                        &left.players, left.counts, left.marks) == 0 && number == 2);
+    expect("strikes", answers[0] == 0 && answers[1] == 0 && answers[2] == 14 && answers[3] == 8 && answers[4] == 9);
+    expect("strikes", by[0] == 1 && by[1] == 1 && by[2] == 0 && by[3] == 0 && by[4] == 9);
+    expect("strikes", left.marks[0] == 0 && left.marks[1] == 1 && left.marks[second] == 0 && left.marks[second + 1] == 1);
+}
+
 /* The game of `solvers`, with all weight on each one's first strategy and on its second; then a game whose value is 3, for player 2's
  * first column. */
 static void candidates(void) {
@@ -113,6 +148,7 @@ int main(void) {
     expect("advance_profile", sigvanyor_advance_profile(counts, 3, step));
     expect("advance_profile", step[0] == 1 && step[1] == 0 && step[2] == 0 && step[3] == 7);
     solvers();
+    strikes();
     candidates();
     limits();
     if (!wrong)

@@ -10,14 +10,23 @@
  *    5  profiles x P is more than SIGVANYOR_MAX_CELLS
  *    6  the number of payoffs given is not profiles x P
  *    7  a payoff is NaN or infinite
+ *   16  foreign survivors, see below
  *    8  player not below P
  *    9  the number of opponents' choices is not P - 1
  *   10  an opponent's choice is not below its player's count
  *   11  the number of choices is not P
  *   12  a choice is not below its player's count
+ *   14  a strategy is not below its player's count, or struck
+ *   15  no survivor strictly dominates the strategy
  *   13  an output is shorter than the result needs
  * Values come through the pointers at the end of a call's parameters. A refused call writes nothing. Where an output is a slice,
  * elements past those written keep their contents.
+ *
+ * Survivors are what is left of a table's strategies: P and the table's counts, 0 from place P on, and a byte for each mark,
+ * SIGVANYOR_MAX_STRATEGIES to a player. Strategy s of player p survives where marks[p * SIGVANYOR_MAX_STRATEGIES + s] is not 0; 0 and 1
+ * are written. Survivors are foreign to a table where P or one of the eight counts is not the table's, a player of the table has no
+ * mark, or a mark stands at or past its player's count, 0 from P on. The table is one value through all strikes on it: nobody writes
+ * it meanwhile.
  *
  * The candidate checks are for two players. Tables and weights have m rows, player 1's actions, and n columns, player 2's, 1 to
  * SIGVANYOR_MAX_ACTIONS each, and are flat by rows: row i and column j stand at i x n + j. What is malformed gets no status but the
@@ -44,6 +53,7 @@ enum {
     SIGVANYOR_MAX_PLAYERS = 8,
     SIGVANYOR_MAX_STRATEGIES = 64,
     SIGVANYOR_MAX_CELLS = 65536,
+    SIGVANYOR_MAX_MARKS = SIGVANYOR_MAX_PLAYERS * SIGVANYOR_MAX_STRATEGIES,
     SIGVANYOR_MAX_ACTIONS = 64
 };
 
@@ -105,6 +115,42 @@ uint32_t sigvanyor_equilibria(const size_t *counts, size_t counts_len, const dou
 uint32_t sigvanyor_strictly_dominated_strategies(const size_t *counts, size_t counts_len, const double *payoffs, size_t payoffs_len,
                                                  size_t player, size_t *dominated, size_t dominated_len,
                                                  size_t *dominators, size_t dominators_len, size_t *number);
+
+/* A place to keep survivors. The calls below take its members one by one. */
+typedef struct {
+    size_t players;
+    size_t counts[SIGVANYOR_MAX_PLAYERS];
+    uint8_t marks[SIGVANYOR_MAX_MARKS];
+} sigvanyor_survivors;
+
+/* The table's fresh survivors, every strategy marked, into the last three; or 1 to 7. */
+uint32_t sigvanyor_fresh(const size_t *counts, size_t counts_len, const double *payoffs, size_t payoffs_len,
+                         size_t *survivors_players, size_t survivors_counts[SIGVANYOR_MAX_PLAYERS],
+                         uint8_t survivors_marks[SIGVANYOR_MAX_MARKS]);
+
+/* Strikes the player's strategy: where it survives and a surviving strategy of the player strictly dominates it against all surviving
+ * choices of the others, its mark is taken from `survivors_marks`, and the lowest such dominator goes into `dominator`; or 1 to 7, 16, 8,
+ * 14, 15, and the marks stay. */
+uint32_t sigvanyor_strike(const size_t *counts, size_t counts_len, const double *payoffs, size_t payoffs_len,
+                          size_t survivors_players, const size_t survivors_counts[SIGVANYOR_MAX_PLAYERS],
+                          uint8_t survivors_marks[SIGVANYOR_MAX_MARKS], size_t player, size_t strategy, size_t *dominator);
+
+/* As sigvanyor_equilibria, in profiles of survivors and with changes to survivors only; or 1 to 7, 16, 13. After any strikes from fresh
+ * survivors the two calls return and write the same, if their outputs have equal lengths or hold all. */
+uint32_t sigvanyor_surviving_equilibria(const size_t *counts, size_t counts_len, const double *payoffs, size_t payoffs_len,
+                                        size_t survivors_players, const size_t survivors_counts[SIGVANYOR_MAX_PLAYERS],
+                                        const uint8_t survivors_marks[SIGVANYOR_MAX_MARKS],
+                                        size_t *choices, size_t choices_len, double *utilities, size_t utilities_len,
+                                        size_t *number);
+
+/* A list of strikes from the table's fresh survivors, each on what the last one left. The i-th names players[i] and strategies[i]; of
+ * unequal lists the shorter length counts. Its answer, 0 or 8, 14 or 15, goes into answers[i], and its dominator, 0 where it is refused,
+ * into dominators[i]; how many were accepted into `number`, and what is left into the last three; or 1 to 7, 13. */
+uint32_t sigvanyor_strikes(const size_t *counts, size_t counts_len, const double *payoffs, size_t payoffs_len,
+                           const size_t *players, size_t players_len, const size_t *strategies, size_t strategies_len,
+                           uint32_t *answers, size_t answers_len, size_t *dominators, size_t dominators_len, size_t *number,
+                           size_t *survivors_players, size_t survivors_counts[SIGVANYOR_MAX_PLAYERS],
+                           uint8_t survivors_marks[SIGVANYOR_MAX_MARKS]);
 
 /* The most that a player gains by another action in place of one, under the weights that someone claims to be a correlated
  * equilibrium: for each two rows i and k the sum, from 0.0 and over the columns ascending, of weights(i,j) x (u1(k,j) - u1(i,j)),
