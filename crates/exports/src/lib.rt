@@ -489,8 +489,8 @@ pub extern "C" fn sigvanyor_strikes(
     let answer = struck.answer;
     let left = struck.survivors;
     match answer {
-        UsizeResult::Ok(n) => {
-            *number = n;
+        UsizeResult::Ok(accepted) => {
+            *number = accepted;
             survivors_into(left, survivors_players, survivors_counts, survivors_marks);
             0
         }

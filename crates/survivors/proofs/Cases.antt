@@ -1,7 +1,8 @@
 -- What a strike answers in each of its cases, and what it hands back. Assumes nothing.
-use mathlib.Core.Path.{_≡_, refl, ap, ap₂}
+use mathlib.Core.Path.{_≡_, refl, sym, ap, ap₂, _∙_}
 use mathlib.Core.Bool.{Bool, true, false, _&&_}
 use mathlib.Core.List.{List}
+use mathlib.Core.Logic.{_↔_}
 use mathlib.Core.Option.{Option, none, some}
 use Prim.Native.Nat.{ℕ, _≤_, _<_}
 use native.Mathlib.Omega.{arith}
@@ -10,10 +11,13 @@ use lib.ListN.{length, getD}
 use lib.Ieee.{Float}
 use Rattle.game.specs.Game.{Marks, Strategy, strategy}
 use Rattle.game.specs.Solution.{dominator}
-use Rattle.game.specs.Strikes.{ruling, answer}
+use Rattle.game.specs.Strikes.{Answer, refused as refused′, accepted, ruling, answer}
+use Rattle.game.specs.Demand3.{Accepted, Refused}
+use Rattle.game.proofs.Strikes.{Answered, answer-law, answer-unique}
 use Rattle.game.proofs.Finite.{and-T, ltb-T, test-true, test-false}
 use Rattle.refusal.specs.Refusal.{Refusal, numberOf, when, _then_}
-use Rattle.refusal.specs.Told.{refused}
+use Rattle.refusal.specs.Told.{values, refused}
+use Rattle.refusal.proofs.Told.{apart}
 use Rattle.refusal.specs.declared.NormalFormError.{NormalFormError}
 use Rattle.refusal.specs.declared.NormalFormError.the-variants.{ForeignSurvivors}
 use Rattle.table.specs.Table.{tableGame}
@@ -77,3 +81,29 @@ module _ (counts : List ℕ) (payoffs : List Float) (v : Survivors) where
 
     pub not-foreign : foreign counts v ≡ false → survivorsRefusal counts payoffs v ≡ none
     not-foreign e = ap₂ (λ (r : Refusal) (b : Bool). r then when b ForeignSurvivors) h e
+
+-- ---- what a strike's answer means, where neither the table nor the survivors are refused
+
+module _ (counts : List ℕ) (payoffs : List Float) (v : Survivors) (c : Strategy) (ok : survivorsRefusal counts payoffs v ≡ none) where
+  -- accepted with t exactly where the strategy survives and t is the lowest survivor of its player that strictly dominates it against all
+  -- surviving choices of the others
+  pub strike-accepted : (t : ℕ) → (strikeAnswer counts payoffs v c ≡ values t) ↔ Accepted (tableGame counts payoffs) (marksOf v) c t
+  strike-accepted t = (
+    λ e. of (answer (tableGame counts payoffs) (marksOf v) c) (answer-law (tableGame counts payoffs) (marksOf v) c) (sym (strike-told counts payoffs v c ok) ∙ e),
+    λ a. strike-told counts payoffs v c ok ∙ ap toldAnswer (answer-unique (tableGame counts payoffs) (marksOf v) c (accepted t) a),
+  )
+    where
+      of : (x : Answer) → Answered (tableGame counts payoffs) (marksOf v) c x → toldAnswer x ≡ values t → Accepted (tableGame counts payoffs) (marksOf v) c t
+      of (refused′ n) a e = absurd (apart t n (sym e))
+      of (accepted u) a e = let is : u ≡ t = cc in rw (← is) a
+
+  -- refused with 8, 14 or 15, by the rule
+  pub strike-denied : (n : ℕ) → (strikeAnswer counts payoffs v c ≡ refused n) ↔ Refused (tableGame counts payoffs) (marksOf v) c n
+  strike-denied n = (
+    λ e. of (answer (tableGame counts payoffs) (marksOf v) c) (answer-law (tableGame counts payoffs) (marksOf v) c) (sym (strike-told counts payoffs v c ok) ∙ e),
+    λ a. strike-told counts payoffs v c ok ∙ ap toldAnswer (answer-unique (tableGame counts payoffs) (marksOf v) c (refused′ n) a),
+  )
+    where
+      of : (x : Answer) → Answered (tableGame counts payoffs) (marksOf v) c x → toldAnswer x ≡ refused n → Refused (tableGame counts payoffs) (marksOf v) c n
+      of (refused′ m) a e = let is : m ≡ n = cc in rw (← is) a
+      of (accepted u) a e = absurd (apart u n e)

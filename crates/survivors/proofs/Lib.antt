@@ -5,3 +5,4 @@ pub mod Cases
 pub mod Chain
 pub mod Demand3
 pub mod Written
+pub mod Computed

@@ -1,0 +1,81 @@
+-- Document 01's games that speak of strikes, computed: each is true by the definitions alone. Assumes nothing.
+use mathlib.Core.Path.{_≡_, refl}
+use mathlib.Core.Bool.{Bool, true, false}
+use mathlib.Core.List.{List, [], _∷_, flatMap}
+use Prim.Native.Nat.{ℕ}
+use lib.Ieee as Ieee
+use lib.Ieee.{Float, nan}
+use lib.ListN.{getD, replicate}
+use Rattle.game.specs.Game.{Strategy, strategy, strategies, profiles, whole, inside, others}
+use Rattle.game.specs.Solution.{dominates, dominators, dominator, gains, deviations, equilibrium, equilibria}
+use Rattle.game.specs.Strikes.{answer}
+use Rattle.refusal.specs.Told.{Told, values, refused}
+use Rattle.utility.specs.Order.{finite, key, rank}
+use Rattle.table.specs.Table.{offset, payoffAt, profilePart, tableGame}
+use Rattle.table.specs.Marks.{marked}
+use Rattle.table.specs.Checks.{countRefusal, countsRefusal, payoffsRefusal, tableRefusal}
+use Rattle.table.specs.Outputs.{roomRefusal}
+use Rattle.table.proofs.Examples.{zero, one, ties, pair, dilemma}
+use Rattle.pure_nash.specs.Answers.{listingAnswer, listedChoices}
+use Rattle.survivors.specs.declared.Survivors.{Survivors}
+use Rattle.survivors.specs.Survivors.{withoutMark, markCount, allMarks, freshOf, nobody, markedFrom, foreign}
+use Rattle.survivors.specs.Answers.{strikeAnswer, strikeLeaves, survivingAnswer, survivingChoices, chain, strikesAnswer}
+
+-- (1,1) (0,0) (0,1) (1,0)
+abbrev after : List Float
+after = one ∷ one ∷ zero ∷ zero ∷ zero ∷ one ∷ one ∷ zero ∷ []
+
+-- the answers to a list of calls
+abbrev answers : List ℕ → List Float → List Strategy → List (Told ℕ)
+answers counts payoffs cs = chain counts payoffs cs .answers
+
+-- the calls that strike the prisoner's dilemma, and what they leave of it
+abbrev both : List Strategy
+both = strategy 0 0 ∷ strategy 1 0 ∷ []
+
+abbrev left : Survivors
+left = chain pair dilemma both .survivors
+
+record Computed : Type 0 where
+  -- one player, 1 5 5: strike 0 answers 1, and repeated it gives 14; strike 1 gives 15
+  tied : answers (3 ∷ []) ties (strategy 0 0 ∷ strategy 0 1 ∷ strategy 0 0 ∷ []) ≡ values 1 ∷ refused 15 ∷ refused 14 ∷ []
+  -- player 0's 1 gives 15, and after player 1's 1 is struck it answers 0
+  in-turn : answers pair after (strategy 0 1 ∷ strategy 1 1 ∷ strategy 0 1 ∷ []) ≡ refused 15 ∷ values 0 ∷ values 0 ∷ []
+  -- the prisoner's dilemma: what is left, and the equilibria over it
+  dilemma-struck : answers pair dilemma both ≡ values 1 ∷ values 1 ∷ []
+  dilemma-left : markCount left ≡ 2
+  dilemma-listed : survivingAnswer pair dilemma left 2 2 ≡ values 1
+  dilemma-choices : survivingChoices pair dilemma left 2 2 ≡ 1 ∷ 1 ∷ []
+  dilemma-short : survivingAnswer pair dilemma left 1 2 ≡ refused 13
+  -- no such player, and no such strategy
+  no-such : answers pair dilemma (strategy 2 0 ∷ strategy 0 2 ∷ []) ≡ refused 8 ∷ refused 14 ∷ []
+  -- refused fresh survivors have P 0, counts 0 and no mark, and are foreign to a table; a refusal of the table comes first
+  nobody-players : nobody .players ≡ 0
+  nobody-counts : nobody .counts ≡ replicate 8 0
+  nobody-marks : nobody .marks ≡ replicate 512 false
+  nobody-foreign : strikeAnswer pair dilemma nobody (strategy 7 0) ≡ refused 16
+  table-first : strikeAnswer (2 ∷ []) (nan ∷ []) nobody (strategy 7 0) ≡ refused 6
+  -- a list of strikes: how many are accepted, and an output that is too short
+  list-told : strikesAnswer pair dilemma both 2 2 ≡ values 2
+  list-short : strikesAnswer pair dilemma both 2 1 ≡ refused 13
+
+computed : Computed
+unfolding flatMap strategies profiles whole inside others dominates dominators dominator gains deviations equilibrium equilibria answer finite key rank Ieee.toBits Ieee.ofBits offset payoffAt profilePart tableGame marked countRefusal countsRefusal payoffsRefusal tableRefusal roomRefusal listingAnswer listedChoices withoutMark markCount allMarks freshOf markedFrom foreign strikeAnswer strikeLeaves strikesAnswer
+computed =
+    record {
+      tied = refl;
+      in-turn = refl;
+      dilemma-struck = refl;
+      dilemma-left = refl;
+      dilemma-listed = refl;
+      dilemma-choices = refl;
+      dilemma-short = refl;
+      no-such = refl;
+      nobody-players = refl;
+      nobody-counts = refl;
+      nobody-marks = refl;
+      nobody-foreign = refl;
+      table-first = refl;
+      list-told = refl;
+      list-short = refl;
+    }
