@@ -19,7 +19,8 @@
  *   14  a strategy is not below its player's count, or struck
  *   15  no survivor strictly dominates the strategy
  *   13  an output is shorter than the result needs
- * Values come through the pointers at the end of a call's parameters. A refused call writes nothing. Where an output is a slice,
+ * Values come through the pointers at the end of a call's parameters; a strike also changes the marks that it is given. A refused call
+ * writes nothing. Where an output is a slice,
  * elements past those written keep their contents.
  *
  * Survivors are what is left of a table's strategies: P and the table's counts, 0 from place P on, and a byte for each mark,
@@ -129,8 +130,8 @@ uint32_t sigvanyor_fresh(const size_t *counts, size_t counts_len, const double *
                          uint8_t survivors_marks[SIGVANYOR_MAX_MARKS]);
 
 /* Strikes the player's strategy: where it survives and a surviving strategy of the player strictly dominates it against all surviving
- * choices of the others, its mark is taken from `survivors_marks`, and the lowest such dominator goes into `dominator`; or 1 to 7, 16, 8,
- * 14, 15, and the marks stay. */
+ * choices of the others, its mark is taken from `survivors_marks`, which are all written again as 0 or 1, and the lowest such dominator
+ * goes into `dominator`; or 1 to 7, 16, 8, 14, 15, and the marks stay. */
 uint32_t sigvanyor_strike(const size_t *counts, size_t counts_len, const double *payoffs, size_t payoffs_len,
                           size_t survivors_players, const size_t survivors_counts[SIGVANYOR_MAX_PLAYERS],
                           uint8_t survivors_marks[SIGVANYOR_MAX_MARKS], size_t player, size_t strategy, size_t *dominator);

@@ -1,7 +1,8 @@
 -- What the outputs of a call are left with: an answer told into one, a space told into two, and the part that C is told, which is that of
--- `profile_payoffs`. Assumes nothing.
-use mathlib.Core.Path.{_≡_, refl, sym, _∙_}
-use mathlib.Core.List.{List, map}
+-- `profile_payoffs`; and that survivors come back from C as they were told. Assumes nothing.
+use mathlib.Core.Path.{_≡_, refl, sym, ap, _∙_}
+use mathlib.Core.Bool.{Bool, true, false, not}
+use mathlib.Core.List.{List, [], _∷_, map}
 use mathlib.Core.Option.{none, some}
 use Prim.Native.Nat.{ℕ, _+_, _≤_, _<_}
 use native.Mathlib.Omega.{arith}
@@ -9,6 +10,7 @@ use Rattle.refusal.specs.Refusal.{Refusal, _then_}
 use Rattle.refusal.specs.Told.{Told, values, refused, toldUnit, unless, status}
 use Rattle.refusal.proofs.Told.{told-values}
 use borrow.Author.Count.{below-more}
+use lib.Dec.{eqb}
 use lib.ListN.{length, getD, set, take, drop, length-map, length-set}
 use lib.Seq.{ext-getD, getD-set-same, getD-set-other}
 use lib.Ieee.{Float}
@@ -17,7 +19,8 @@ use Rattle.table.specs.Checks.{tableRefusal, profileRefusal}
 use Rattle.table.specs.Answers.{spaceOf, spaceUnless, profilePayoffs}
 use Rattle.table.specs.declared.SpaceResult.{SpaceResult}
 use Rattle.table.proofs.Offsets.{getD-map}
-use Rattle.exports.specs.Status.{output, beside, partStart, partLength}
+use Rattle.survivors.specs.declared.Survivors.{Survivors}
+use Rattle.exports.specs.Status.{output, beside, partStart, partLength, survivorsOf, byteOf, markBytes}
 
 -- an answer t told into an output, where t is u
 pub told-into : {A : Type 0} (t u : Told A) (n : ℕ) (new old : A) → t ≡ u → (n ≡ status t) × (new ≡ output t old) → (n ≡ status u) × (new ≡ output u old)
@@ -71,3 +74,18 @@ module _ {A B : Type 0} (f : A → B) (xs : List A) (a : A) (b : B) (n : ℕ) wh
   made-all i out e h m =
       ext-getD b out (map f xs) (m .size ∙ sym (length-map xs f ∙ e)) (λ j k.
       m .done j (omega (arith, m .size)) ∙ sym (getD-map f xs j a b (omega (arith, m .size, e))))
+
+-- ---- survivors
+
+byte-mark : (b : Bool) → not (eqb (byteOf b) 0) ≡ b
+byte-mark true = refl
+byte-mark false = refl
+
+marks-back : (bs : List Bool) → map (λ b. not (eqb b 0)) (map byteOf bs) ≡ bs
+marks-back [] = refl
+marks-back (b ∷ bs) = rw (byte-mark b, marks-back bs)
+
+-- survivors that C was told and hands in again are the same
+pub survivors-back : (v : Survivors) → survivorsOf (v .players) (v .counts) (markBytes v) ≡ v
+unfolding survivorsOf
+survivors-back v = ap {B = Survivors} (λ (l : List Bool). record { players = v .players; counts = v .counts; marks = l }) (marks-back (v .marks))

@@ -1,4 +1,4 @@
--- What an answer tells: values, or a refusal's number alone. Every contract of the library speaks of answers through this type.
+-- What an answer tells: values, or a refusal's number alone. The contract of every call that may refuse speaks of its answer through this type.
 -- Assumes nothing.
 use mathlib.Core.Bool.{Bool, true, false}
 use mathlib.Core.Option.{Option, none, some}

@@ -76,7 +76,7 @@ fn first_row(
     at
 }
 
-// The next such offset after one, `base`, or `profiles` where there is none; `choices` has the other players' choices at `base`, and then
+// The next such offset after `base`, which is one, or `profiles` where there is none; `choices` has the other players' choices at `base`, and then
 // those at the next. From the last player down, each choice goes back to its first marked one, until one goes on to its next.
 fn next_row(
     counts: &[usize],

@@ -1,57 +1,47 @@
 -- A chain of strikes from survivors that are not foreign, held against the machine's run from their marks: the same answers and the same
 -- marks, and no survivors become foreign. Assumes nothing.
-use mathlib.Core.Path.{_≡_, refl, sym, ap, _∙_, subst}
+use mathlib.Core.Path.{_≡_, refl, sym, ap, _∙_, subst, subst⁻¹}
 use mathlib.Core.Logic.{_↔_, ⊎-elim}
-use mathlib.Core.Bool.{false}
 use mathlib.Core.List.{List, [], _∷_, _++_, map}
-use mathlib.Core.Option.{none}
 use Prim.Native.Nat.{ℕ, suc, _+_, _<_}
 use native.Mathlib.Nat.{zero-add}
 use native.Mathlib.Omega.{arith}
 use lib.Dec.{T, eqb}
-use lib.ListN.{length, length-set}
 use lib.Ieee.{Float}
-use Rattle.game.specs.Finite.{sum, filter}
 use Rattle.game.specs.Game.{Strategy, Marks, whole}
-use Rattle.game.specs.Strikes.{Answer, refused, accepted, answer, without, after, runFrom, run}
-use Rattle.game.specs.Demand3.{Accepted, Refused}
+use Rattle.game.specs.Strikes.{Answer, refused, accepted, answer, without, after, runFrom}
+use Rattle.game.specs.Demand3.{Accepted}
 use Rattle.game.proofs.Finite.{eqb-T, either}
 use Rattle.game.proofs.Game.{whole-law}
 use Rattle.game.proofs.Strikes.{Answered, answer-law, without-law}
-use Rattle.refusal.specs.Refusal.{Refusal}
-use Rattle.refusal.specs.Told.{Told, values, refused as toldRefused, tells}
-use Rattle.table.specs.Limits.{maxPlayers, maxStrategies, maxMarks}
+use Rattle.refusal.specs.Told.{Told, values, refused as toldRefused}
+use Rattle.table.specs.Limits.{maxStrategies}
 use Rattle.table.specs.Table.{tableGame}
-use Rattle.table.specs.Meaning.{Shape, Table}
-use Rattle.table.specs.Answers.{places}
+use Rattle.table.specs.Meaning.{Table}
 use Rattle.table.proofs.Checks.{table-law}
 use Rattle.table.proofs.Space.{space-count}
 use Rattle.table.specs.Answers.{spaceOf}
 use Rattle.survivors.specs.declared.Survivors.{Survivors}
-use Rattle.survivors.specs.Survivors.{marksOf, withoutMark, markCount, freshOf, foreign}
-use Rattle.survivors.specs.Answers.{toldAnswer, handedBack, survivorsRefusal, strikeAnswer, strikeLeaves, Chain, chainFrom, chain, acceptedOf}
+use Rattle.survivors.specs.Survivors.{marksOf, withoutMark, markCount, freshOf}
+use Rattle.survivors.specs.Answers.{toldAnswer, handedBack, strikeAnswer, strikeLeaves, Chain, chainFrom, acceptedOf}
 use Rattle.survivors.specs.Meaning.{Own, Struck, done, struck, kept}
-use Rattle.survivors.proofs.Marks.{all-length, fresh-marks, without-marks, count-without, high}
+use Rattle.survivors.proofs.Marks.{Full, fresh-full, fresh-marks, without-full, without-marks, count-without}
 use Rattle.survivors.proofs.Foreign.{own-not}
 use Rattle.survivors.proofs.Cases.{strike-told, not-foreign}
 
 module _ (counts : List ℕ) (payoffs : List Float) where
-  -- survivors of the table that strikes keep: P and the counts are the table's as fresh survivors have them, and they are not foreign
-  pub record Kept (v : Survivors) : Type 0 where
-    pub players : v .players ≡ length counts
-    pub held : v .counts ≡ places counts
-    pub full : length (v .marks) ≡ maxMarks
+  -- what every strike of a list keeps of the survivors: as many marks as there may be, and they are not foreign
+  pub record Good (v : Survivors) : Type 0 where
+    pub full : Full v
     pub own : Own counts v
 
-  pub fresh-kept : Table counts payoffs → Kept (freshOf counts)
+  pub fresh-good : Table counts payoffs → Good (freshOf counts)
   unfolding freshOf spaceOf tableGame
-  fresh-kept t =
+  fresh-good t =
       let g = tableGame counts payoffs in
       let is : (p s : ℕ) → marksOf (freshOf counts) p s ≡ whole g p s = λ p s. ap (λ (m : Marks). m p s) (fresh-marks counts payoffs (t .shape)) in
       record {
-        players = refl;
-        held = refl;
-        full = all-length counts;
+        full = fresh-full counts;
         own = record {
           same-players = refl;
           same-counts = λ p l. space-count counts p (t .shape .few);
@@ -62,7 +52,7 @@ module _ (counts : List ℕ) (payoffs : List Float) where
 
   -- ---- one strike
 
-  module _ (t : Table counts payoffs) (v : Survivors) (k : Kept v) (c : Strategy) where
+  module _ (t : Table counts payoffs) (v : Survivors) (k : Good v) (c : Strategy) where
     -- the answer is the machine's
     pub told : strikeAnswer counts payoffs v c ≡ toldAnswer (answer (tableGame counts payoffs) (marksOf v) c)
     told = strike-told counts payoffs v c (not-foreign counts payoffs v (table-law counts payoffs .1 t) (own-not counts v (k .own)))
@@ -84,13 +74,11 @@ module _ (counts : List ℕ) (payoffs : List Float) where
       after-law p s = subst (λ (m : Marks). T (m p s) ↔ (T (marksOf v p s) × ((p ≡ c .player) × (s ≡ c .number) → ⊥))) (sym taken) (without-law (marksOf v) c p s)
 
       -- and leaves its player the dominator
-      stays : Kept (withoutMark v c)
+      stays : Good (withoutMark v c)
       unfolding withoutMark tableGame
       stays =
           record {
-            players = k .players;
-            held = k .held;
-            full = length-set (v .marks) _ false ∙ k .full;
+            full = without-full v c (k .full) (omega (arith, a .survives .0 .0, t .shape .few)) low;
             own = record {
               same-players = k .own .same-players;
               same-counts = k .own .same-counts;
@@ -129,7 +117,7 @@ module _ (counts : List ℕ) (payoffs : List Float) where
   pub record Ran (v : Survivors) (cs : List Strategy) (m : Marks) (ans : List Answer) (x : Chain) : Type 0 where
     pub answers : x .answers ≡ map toldAnswer ans
     pub marks : marksOf (x .survivors) ≡ m
-    pub stays : Kept (x .survivors)
+    pub stays : Good (x .survivors)
     pub calls : Struck counts payoffs v cs (x .answers) (x .survivors)
     pub counted : acceptedOf (x .answers) + markCount (x .survivors) ≡ markCount v
 
@@ -138,11 +126,15 @@ module _ (counts : List ℕ) (payoffs : List Float) where
   RanFrom v cs m =
       let r = runFrom (tableGame counts payoffs) m cs in Ran v cs (r .marks) (r .answers) (chainFrom counts payoffs v cs)
 
-  ran-cons : Table counts payoffs → (v : Survivors) → Kept v → (c : Strategy) (cs : List Strategy) → ((w : Survivors) → Kept w → RanFrom w cs (marksOf w))
+  ran-cons : Table counts payoffs → (v : Survivors) → Good v → (c : Strategy) (cs : List Strategy) → ((w : Survivors) → Good w → RanFrom w cs (marksOf w))
       → RanFrom v (c ∷ cs) (marksOf v)
+  unfolding strikeLeaves
   ran-cons t v k c cs rest =
       go (answer (tableGame counts payoffs) (marksOf v) c) (answer-law (tableGame counts payoffs) (marksOf v) c) (told t v k c)
     where
+      leaves : {a : Told ℕ} → strikeAnswer counts payoffs v c ≡ a → strikeLeaves counts payoffs v c ≡ handedBack v c a
+      leaves e = ap (handedBack v c) e
+
       go : (a : Answer) → Answered (tableGame counts payoffs) (marksOf v) c a → strikeAnswer counts payoffs v c ≡ toldAnswer a
           → let r = runFrom (tableGame counts payoffs) (after (marksOf v) c a) cs in Ran v (c ∷ cs) (r .marks) (a ∷ r .answers) (chainFrom counts payoffs v (c ∷ cs))
       go (refused e) h is =
@@ -151,7 +143,7 @@ module _ (counts : List ℕ) (payoffs : List Float) where
             answers = ap {B = List (Told ℕ)} (λ l. toldRefused e ∷ l) (i .answers);
             marks = i .marks;
             stays = i .stays;
-            calls = kept h (i .calls);
+            calls = kept is h (leaves is) (i .calls);
             counted = i .counted;
           })
       go (accepted u) h is =
@@ -161,10 +153,10 @@ module _ (counts : List ℕ) (payoffs : List Float) where
             answers = ap {B = List (Told ℕ)} (λ l. values u ∷ l) (i .answers);
             marks = i .marks;
             stays = i .stays;
-            calls = struck h e (i .calls);
+            calls = struck is h (ap marksOf (leaves is) ∙ e) (subst⁻¹ (λ (w : Survivors). let x = chainFrom counts payoffs (withoutMark v c) cs in Struck counts payoffs w cs (x .answers) (x .survivors)) (leaves is) (i .calls));
             counted = omega (arith, i .counted, less t v k c u h);
           })
 
-  pub ran : Table counts payoffs → (v : Survivors) → Kept v → (cs : List Strategy) → RanFrom v cs (marksOf v)
+  pub ran : Table counts payoffs → (v : Survivors) → Good v → (cs : List Strategy) → RanFrom v cs (marksOf v)
   ran t v k [] = record { answers = refl; marks = refl; stays = k; calls = done; counted = zero-add _ }
   ran t v k (c ∷ cs) = ran-cons t v k c cs (λ w j. ran t w j cs)

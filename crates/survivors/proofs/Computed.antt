@@ -1,16 +1,17 @@
 -- Document 01's games that speak of strikes, computed: each is true by the definitions alone. Assumes nothing.
 use mathlib.Core.Path.{_≡_, refl}
-use mathlib.Core.Bool.{Bool, true, false}
+use mathlib.Core.Bool.{false}
 use mathlib.Core.List.{List, [], _∷_, flatMap}
 use Prim.Native.Nat.{ℕ}
 use lib.Ieee as Ieee
 use lib.Ieee.{Float, nan}
-use lib.ListN.{getD, replicate}
+use lib.ListN.{replicate}
 use Rattle.game.specs.Game.{Strategy, strategy, strategies, profiles, whole, inside, others}
 use Rattle.game.specs.Solution.{dominates, dominators, dominator, gains, deviations, equilibrium, equilibria}
 use Rattle.game.specs.Strikes.{answer}
 use Rattle.refusal.specs.Told.{Told, values, refused}
 use Rattle.utility.specs.Order.{finite, key, rank}
+use Rattle.table.specs.Limits.{maxPlayers, maxMarks}
 use Rattle.table.specs.Table.{offset, payoffAt, profilePart, tableGame}
 use Rattle.table.specs.Marks.{marked}
 use Rattle.table.specs.Checks.{countRefusal, countsRefusal, payoffsRefusal, tableRefusal}
@@ -18,7 +19,7 @@ use Rattle.table.specs.Outputs.{roomRefusal}
 use Rattle.table.proofs.Examples.{zero, one, ties, pair, dilemma}
 use Rattle.pure_nash.specs.Answers.{listingAnswer, listedChoices}
 use Rattle.survivors.specs.declared.Survivors.{Survivors}
-use Rattle.survivors.specs.Survivors.{withoutMark, markCount, allMarks, freshOf, nobody, markedFrom, foreign}
+use Rattle.survivors.specs.Survivors.{withoutMark, markCount, allMarks, freshOf, noSurvivors, markedFrom, foreign}
 use Rattle.survivors.specs.Answers.{strikeAnswer, strikeLeaves, survivingAnswer, survivingChoices, chain, strikesAnswer}
 
 -- (1,1) (0,0) (0,1) (1,0)
@@ -50,11 +51,11 @@ record Computed : Type 0 where
   -- no such player, and no such strategy
   no-such : answers pair dilemma (strategy 2 0 ∷ strategy 0 2 ∷ []) ≡ refused 8 ∷ refused 14 ∷ []
   -- refused fresh survivors have P 0, counts 0 and no mark, and are foreign to a table; a refusal of the table comes first
-  nobody-players : nobody .players ≡ 0
-  nobody-counts : nobody .counts ≡ replicate 8 0
-  nobody-marks : nobody .marks ≡ replicate 512 false
-  nobody-foreign : strikeAnswer pair dilemma nobody (strategy 7 0) ≡ refused 16
-  table-first : strikeAnswer (2 ∷ []) (nan ∷ []) nobody (strategy 7 0) ≡ refused 6
+  none-players : noSurvivors .players ≡ 0
+  none-counts : noSurvivors .counts ≡ replicate maxPlayers 0
+  none-marks : noSurvivors .marks ≡ replicate maxMarks false
+  none-foreign : strikeAnswer pair dilemma noSurvivors (strategy 7 0) ≡ refused 16
+  table-first : strikeAnswer (2 ∷ []) (nan ∷ []) noSurvivors (strategy 7 0) ≡ refused 6
   -- a list of strikes: how many are accepted, and an output that is too short
   list-told : strikesAnswer pair dilemma both 2 2 ≡ values 2
   list-short : strikesAnswer pair dilemma both 2 1 ≡ refused 13
@@ -71,10 +72,10 @@ computed =
       dilemma-choices = refl;
       dilemma-short = refl;
       no-such = refl;
-      nobody-players = refl;
-      nobody-counts = refl;
-      nobody-marks = refl;
-      nobody-foreign = refl;
+      none-players = refl;
+      none-counts = refl;
+      none-marks = refl;
+      none-foreign = refl;
       table-first = refl;
       list-told = refl;
       list-short = refl;

@@ -1,6 +1,6 @@
 -- Demand 3 at the calls: the record of specs/Demand3, for every table with none of refusals 1 to 7 and every list of calls, from the chain's
 -- agreement with the machine (Chain) and the theorem of `game` about the machine. Assumes nothing.
-use mathlib.Core.Path.{_≡_, refl, sym, ap, _∙_, subst, subst⁻¹}
+use mathlib.Core.Path.{_≡_, sym, ap, _∙_, subst}
 use mathlib.Core.List.{List, map}
 use mathlib.Core.Option.{none}
 use Prim.Native.Nat.{ℕ, _*_}
@@ -11,8 +11,8 @@ use Rattle.game.specs.Meaning.{Undominated}
 use Rattle.game.specs.Solution.{equilibria}
 use Rattle.game.specs.Strikes.{run, runFrom}
 use Rattle.game.proofs.Demand3 as Theory
-use Rattle.refusal.specs.Refusal.{Refusal, _then_}
-use Rattle.refusal.specs.Told.{Told, values}
+use Rattle.refusal.specs.Refusal.{Refusal}
+use Rattle.refusal.specs.Told.{values}
 use Rattle.table.specs.Table.{profilePart, tableGame}
 use Rattle.table.specs.Meaning.{Table}
 use Rattle.table.specs.Checks.{tableRefusal}
@@ -23,13 +23,13 @@ use Rattle.table.proofs.Outputs.{room-fits}
 use Rattle.pure_nash.specs.Answers.{tableEquilibria, listingAnswer, listedChoices, listedUtilities, equilibriaAnswer, equilibriaChoices, equilibriaUtilities}
 use Rattle.pure_nash.proofs.Listing.{same-answer, same-choices, same-utilities}
 use Rattle.survivors.specs.declared.Survivors.{Survivors}
-use Rattle.survivors.specs.Survivors.{marksOf, freshOf, foreignRefusal}
+use Rattle.survivors.specs.Survivors.{marksOf, freshOf}
 use Rattle.survivors.specs.Answers.{survivorsRefusal, chain}
 use Rattle.survivors.specs.Demand3.{SameListing, HoldsAll, Demand3}
-use Rattle.survivors.proofs.Marks.{marks-same, fresh-marks, count-fresh}
+use Rattle.survivors.proofs.Marks.{fresh-marks, count-fresh}
 use Rattle.survivors.proofs.Foreign.{own-not, foreign-law}
 use Rattle.survivors.proofs.Cases.{not-foreign}
-use Rattle.survivors.proofs.Chain.{Kept, fresh-kept, Ran, ran}
+use Rattle.survivors.proofs.Chain.{Good, fresh-good, Ran, ran}
 
 module _ (counts : List ℕ) (payoffs : List Float) (t : Table counts payoffs) where
   abbrev g : Game
@@ -58,7 +58,7 @@ module _ (counts : List ℕ) (payoffs : List Float) (t : Table counts payoffs) w
     unfolding listedUtilities
     held-utilities = rw held-answer
 
-  module _ (v : Survivors) (k : Kept counts payoffs v) (is : equilibria g (marksOf v) ≡ equilibria g (whole g)) where
+  module _ (v : Survivors) (k : Good counts payoffs v) (is : equilibria g (marksOf v) ≡ equilibria g (whole g)) where
     own : survivorsRefusal counts payoffs v ≡ none
     own = not-foreign counts payoffs v none-applies (own-not counts v (k .own))
 
@@ -92,16 +92,7 @@ module _ (counts : List ℕ) (payoffs : List Float) (t : Table counts payoffs) w
   pub from-fresh : (cs : List Strategy) → Ran counts payoffs (freshOf counts) cs (run g cs .marks) (run g cs .answers) (chain counts payoffs cs)
   from-fresh cs =
       subst (λ (m : Marks). Ran counts payoffs (freshOf counts) cs (runFrom g m cs .marks) (runFrom g m cs .answers) (chain counts payoffs cs))
-      (fresh-marks counts payoffs (t .shape)) (ran counts payoffs t (freshOf counts) (fresh-kept counts payoffs t) cs)
-
-  -- survivors with the same marks are the same
-  survivors-same : (v w : Survivors) → Kept counts payoffs v → Kept counts payoffs w → marksOf v ≡ marksOf w → v ≡ w
-  survivors-same v w j k e =
-      λ i. record {
-        players = (j .players ∙ sym (k .players)) i;
-        counts = (j .held ∙ sym (k .held)) i;
-        marks = marks-same (v .marks) (w .marks) (j .full) (k .full) e i;
-      }
+      (fresh-marks counts payoffs (t .shape)) (ran counts payoffs t (freshOf counts) (fresh-good counts payoffs t) cs)
 
   pub demand-3 : (cs : List Strategy) → Demand3 counts payoffs cs
   unfolding tableGame
@@ -117,8 +108,7 @@ module _ (counts : List ℕ) (payoffs : List Float) (t : Table counts payoffs) w
         same-listing = same-listing (left cs) (r .stays) is;
         same-held = same-held (left cs) (r .stays) is;
         counted = r .counted ∙ count-fresh counts (t .shape);
-        same-survivors = λ ds a b.
+        same-marks = λ ds a b.
             let s = from-fresh ds in
-            let e = d .same-marks ds (subst (Undominated g) (r .marks) a) (subst (Undominated g) (s .marks) b) in
-            survivors-same (left cs) (left ds) (r .stays) (s .stays) (r .marks ∙ e ∙ sym (s .marks));
+            r .marks ∙ d .same-marks ds (subst (Undominated g) (r .marks) a) (subst (Undominated g) (s .marks) b) ∙ sym (s .marks);
       }

@@ -9,7 +9,7 @@ use native.Mathlib.Omega.{arith}
 use borrow.Author.Count.{below-more}
 use lib.Dec.{T, leb, eqb, leb→le, le→leb}
 use lib.ListN.{length, getD}
-use Rattle.game.specs.Finite.{_∈_, all, below, filter, empty}
+use Rattle.game.specs.Finite.{_∈_, below, filter, empty}
 use Rattle.game.specs.Game.{Marks}
 use Rattle.game.proofs.Finite.{and-T, no-T, eqb-T, all-T, filter-mem, below-mem, le-or-lt, test-true, test-false}
 use Rattle.refusal.specs.Refusal.{when}

@@ -1,10 +1,10 @@
 -- What marks are at every place: those of fresh survivors are the whole game's, to take one mark out takes just that one, and how many
 -- there are. Assumes nothing.
 use mathlib.Core.Path.{_≡_, refl, sym, ap, _∙_, fun-ext}
-use mathlib.Core.Bool.{Bool, true, false, cond, not, _&&_}
+use mathlib.Core.Bool.{Bool, true, false, _&&_}
 use mathlib.Core.List.{List, [], _∷_, _++_, map, flatMap, map-map}
-use mathlib.Core.Logic.{_↔_, _≢_, ⊎-elim}
-use Prim.Native.Nat.{ℕ, zero, suc, _+_, _*_, _/_, _%_, _≤_, _<_, zero-le, suc-le-suc}
+use mathlib.Core.Logic.{_↔_, ⊎-elim}
+use Prim.Native.Nat.{ℕ, zero, suc, _+_, _*_, _/_, _%_, _≤_, _<_, zero-le}
 use native.Mathlib.Nat.{not-suc-le-zero, le-of-suc-le-suc, mod-lt, div-add-mod'}
 use native.Mathlib.Omega.{arith}
 use borrow.Author.Count.{below-more}
@@ -15,11 +15,10 @@ use lib.ListN.{length, getD, set, replicate, length-map, length-append, length-s
 use lib.Seq.{ext-getD, getD-set-same, getD-set-other}
 use lib.Ieee.{Float}
 use Rattle.game.specs.Finite.{below, sum, filter}
-use Rattle.game.specs.Game.{Game, Marks, Strategy, whole}
+use Rattle.game.specs.Game.{Marks, Strategy, whole}
 use Rattle.game.specs.Strikes.{without}
 use Rattle.game.proofs.Finite.{length-below, length-flatMap, sum-equal, le-or-lt, same-test, test-true, filter-append, map-cong}
-use Rattle.game.proofs.Game.{whole-law}
-use Rattle.game.proofs.Strikes.{without-law, without-cases}
+use Rattle.game.proofs.Strikes.{without-law}
 use Rattle.table.specs.Limits.{maxPlayers, maxStrategies, maxMarks}
 use Rattle.table.specs.Table.{tableGame}
 use Rattle.table.specs.Marks.{markPlace, marked}
@@ -110,6 +109,14 @@ pub fresh-is : (counts : List ℕ) (v : Survivors) → length counts ≤ maxPlay
 unfolding freshOf
 fresh-is counts v h a b c = λ i. record { players = a i; counts = b i; marks = (c ∙ all-places counts h) i }
 
+-- as many marks as there may be, as every array of marks has
+abbrev pub Full : Survivors → Type 0
+Full v = length (v .marks) ≡ maxMarks
+
+pub fresh-full : (counts : List ℕ) → Full (freshOf counts)
+unfolding freshOf
+fresh-full counts = all-length counts
+
 -- ---- one mark less
 
 -- Two places are the same only where player and strategy are.
@@ -120,7 +127,7 @@ place-once p s q t h k e = (
 )
 
 -- The survivors without one mark are marked as before, but for the one.
-module _ (v : Survivors) (c : Strategy) (full : length (v .marks) ≡ maxMarks) (l : c .player < maxPlayers) (k : c .number < maxStrategies) where
+module _ (v : Survivors) (c : Strategy) (full : Full v) (l : c .player < maxPlayers) (k : c .number < maxStrategies) where
   inside : markPlace (c .player) (c .number) < length (v .marks)
   inside = rw full (mark-inside (c .player) (c .number) l k)
 
@@ -136,6 +143,10 @@ module _ (v : Survivors) (c : Strategy) (full : length (v .marks) ≡ maxMarks) 
       ∙ getD-set-other (v .marks) (markPlace (c .player) (c .number)) (markPlace p s) false false (λ e. n (place-once p s (c .player) (c .number) j k e))
       ∙ sym (mark-at (v .marks) p s j))
       (le-or-lt maxStrategies s)
+
+  pub without-full : Full (withoutMark v c)
+  unfolding withoutMark
+  without-full = length-set (v .marks) (markPlace (c .player) (c .number)) false ∙ full
 
   -- the marks afterwards
   new : Marks

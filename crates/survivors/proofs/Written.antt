@@ -19,7 +19,7 @@ use Rattle.refusal.specs.declared.NormalFormError.{NormalFormError}
 use Rattle.table.specs.Outputs.{over}
 use Rattle.table.proofs.Outputs.{over-length, over-more}
 use Rattle.survivors.specs.declared.Survivors.{Survivors}
-use Rattle.survivors.specs.Survivors.{freshOf, nobody}
+use Rattle.survivors.specs.Survivors.{freshOf, noSurvivors}
 use Rattle.survivors.specs.Answers.{strikeAnswer, strikeLeaves, callsOf, Chain, chainFrom, chain, acceptedOf, dominatorOf, strikesRefusal, strikesAnswer, strikesLeave, strikesWritten}
 use Rattle.survivors.proofs.Chain.{chain-last}
 
@@ -119,9 +119,9 @@ module _ (counts : List ℕ) (payoffs : List Float) where
 -- ---- what `strikes` answers, by its refusal
 
 module _ (counts : List ℕ) (payoffs : List Float) (cs : List Strategy) (a b : ℕ) where
-  -- refused, it tells that and leaves nobody
+  -- refused, it tells that and leaves noSurvivors
   pub strikes-refused : (e : NormalFormError) → strikesRefusal counts payoffs cs a b ≡ some e
-      → (refused (numberOf e) ≡ strikesAnswer counts payoffs cs a b) × (nobody ≡ strikesLeave counts payoffs cs a b) × ([] ≡ strikesWritten counts payoffs cs a b)
+      → (refused (numberOf e) ≡ strikesAnswer counts payoffs cs a b) × (noSurvivors ≡ strikesLeave counts payoffs cs a b) × ([] ≡ strikesWritten counts payoffs cs a b)
   unfolding strikesAnswer strikesLeave strikesWritten
   strikes-refused e h = rw h (refl, refl, refl)
 

@@ -15,7 +15,7 @@ use Rattle.table.specs.Checks.{tableRefusal}
 use Rattle.table.specs.Outputs.{roomRefusal}
 use Rattle.pure_nash.specs.Answers.{listingAnswer, listedChoices, listedUtilities}
 use Rattle.survivors.specs.declared.Survivors.{Survivors}
-use Rattle.survivors.specs.Survivors.{marksOf, withoutMark, freshOf, unlessRefused, nobody, foreignRefusal}
+use Rattle.survivors.specs.Survivors.{marksOf, withoutMark, freshOf, unlessRefused, noSurvivors, foreignRefusal}
 
 -- ---- one strike
 
@@ -105,7 +105,7 @@ module _ (counts : List ℕ) (payoffs : List Float) (cs : List Strategy) (a b : 
 
   -- the survivors beside it, which are refused fresh survivors where it refuses
   unfoldable pub strikesLeave : Survivors
-  strikesLeave = unlessRefused strikesRefusal (chain counts payoffs cs .survivors) nobody
+  strikesLeave = unlessRefused strikesRefusal (chain counts payoffs cs .survivors) noSurvivors
 
   -- the answers that are written, each as 0 or the refusal's number into one output and as the dominator into the other: all, or none
   -- where it refuses

@@ -1,7 +1,7 @@
 -- Demand 3 at the calls (document 01, "Strikes"): one claim about a table with none of refusals 1 to 7 and a list of strike calls from
 -- its fresh survivors, empty or not, accepted and refused mixed, naming any numbers. It speaks of the chain of calls by the definitions
 -- that the contracts of `fresh`, `strike`, `equilibria` and `surviving_equilibria` name, and the contract of `strikes`, which runs the
--- chain, has it. The table is one value through all the calls: nobody writes it meanwhile. Assumes nothing.
+-- chain, has it. The table is one value through all the calls: noSurvivors writes it meanwhile. Assumes nothing.
 use mathlib.Core.Path.{_≡_}
 use mathlib.Core.List.{List, map}
 use mathlib.Core.Option.{none}
@@ -33,25 +33,25 @@ module _ (counts : List ℕ) (payoffs : List Float) where
 
   -- the claim about the list of calls cs
   pub record Demand3 (cs : List Strategy) : Type 0 where
-    -- exactly the calls that the plain machine accepts, at the game that the table is, answer as accepted, with the machine's dominator;
-    -- the others answer with the machine's refusal
+    -- Exactly the calls that the plain machine accepts, at the game that the table is, answer as accepted, with the machine's dominator. The
+    -- others answer with the machine's refusal.
     pub answers : chain counts payoffs cs .answers ≡ map toldAnswer (run (tableGame counts payoffs) cs .answers)
-    -- which is 8, 14 or 15. Each accepted call took just the mark it names, each refused one none
+    -- Each accepted call took just the mark it names, each refused one none, and 8, 14 and 15 are the only refusals.
     pub calls : Struck counts payoffs (freshOf counts) cs (chain counts payoffs cs .answers) (chain counts payoffs cs .survivors)
-    -- after the list exactly the strategies that the machine has left are marked,
+    -- After the list exactly the strategies that the machine has left are marked.
     pub marks : marksOf (chain counts payoffs cs .survivors) ≡ run (tableGame counts payoffs) cs .marks
-    -- and the survivors are not foreign
+    -- The survivors are not foreign.
     pub own : foreignRefusal counts (chain counts payoffs cs .survivors) ≡ none
-    -- the equilibria listed over the survivors are those of the whole table: for outputs of equal lengths,
+    -- The equilibria listed over the survivors are those of the whole table, for outputs of equal lengths.
     pub same-listing : (a b : ℕ) → SameListing (chain counts payoffs cs .survivors) a b a b
-    -- and for any that hold them all
+    -- They are so for any outputs that hold them all.
     pub same-held : (a b c d : ℕ) → HoldsAll a → HoldsAll b → HoldsAll c → HoldsAll d
         → SameListing (chain counts payoffs cs .survivors) a b c d
-    -- accepted + marks = the strategies at the start, the sum of the counts
+    -- Accepted answers + marks = the strategies at the start, the sum of the counts.
     pub counted : acceptedOf (chain counts payoffs cs .answers) + markCount (chain counts payoffs cs .survivors) ≡ sum counts
-    -- any other list leaves the same survivors, where each of the two leaves no survivor that is strictly dominated by another survivor
-    -- of the same player against the others' survivors
-    pub same-survivors : (ds : List Strategy)
+    -- Any other list leaves the same marks, where each of the two leaves no survivor that is strictly dominated by another survivor of the
+    -- same player against the others' survivors.
+    pub same-marks : (ds : List Strategy)
         → Undominated (tableGame counts payoffs) (marksOf (chain counts payoffs cs .survivors))
         → Undominated (tableGame counts payoffs) (marksOf (chain counts payoffs ds .survivors))
-        → chain counts payoffs cs .survivors ≡ chain counts payoffs ds .survivors
+        → marksOf (chain counts payoffs cs .survivors) ≡ marksOf (chain counts payoffs ds .survivors)

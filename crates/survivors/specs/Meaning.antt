@@ -13,6 +13,7 @@ use Rattle.table.specs.Limits.{maxPlayers}
 use Rattle.table.specs.Table.{tableGame}
 use Rattle.survivors.specs.declared.Survivors.{Survivors}
 use Rattle.survivors.specs.Survivors.{marksOf}
+use Rattle.survivors.specs.Answers.{strikeAnswer, strikeLeaves}
 
 -- survivors that are not foreign to a table with these counts
 pub record Own (counts : List ℕ) (v : Survivors) : Type 0 where
@@ -21,13 +22,20 @@ pub record Own (counts : List ℕ) (v : Survivors) : Type 0 where
   pub some : (p : ℕ) → p < length counts → (s : ℕ) × T (marksOf v p s)
   pub within : (p s : ℕ) → p < maxPlayers → T (marksOf v p s) → s < getD counts p 0
 
--- From the survivors v the calls get the answers and hand back the survivors w at last. An accepted call answers with the lowest
--- dominator among the survivors and takes just the mark it names; a refused one answers 8, 14 or 15 alone and takes none.
+-- From the survivors v the calls get the answers, each on the survivors that the last one handed back, and w is handed back at last. A call
+-- that answers with t is accepted: t is the lowest dominator among the survivors, and what is handed back lacks just the mark that the call
+-- names. One that is refused with e gets 8, 14 or 15 by the rule, and its survivors back.
 pub data Struck (counts : List ℕ) (payoffs : List Float) : Survivors → List Strategy → List (Told ℕ) → Survivors → Type 0 where
   done : {v : Survivors} → Struck counts payoffs v [] [] v
-  struck : {u v w : Survivors} {c : Strategy} {t : ℕ} {cs : List Strategy} {ans : List (Told ℕ)}
-      → Accepted (tableGame counts payoffs) (marksOf u) c t → marksOf v ≡ without (marksOf u) c → Struck counts payoffs v cs ans w
-      → Struck counts payoffs u (c ∷ cs) (values t ∷ ans) w
+  struck : {v w : Survivors} {c : Strategy} {t : ℕ} {cs : List Strategy} {ans : List (Told ℕ)}
+      → strikeAnswer counts payoffs v c ≡ values t
+      → Accepted (tableGame counts payoffs) (marksOf v) c t
+      → marksOf (strikeLeaves counts payoffs v c) ≡ without (marksOf v) c
+      → Struck counts payoffs (strikeLeaves counts payoffs v c) cs ans w
+      → Struck counts payoffs v (c ∷ cs) (values t ∷ ans) w
   kept : {v w : Survivors} {c : Strategy} {e : ℕ} {cs : List Strategy} {ans : List (Told ℕ)}
-      → Refused (tableGame counts payoffs) (marksOf v) c e → Struck counts payoffs v cs ans w
+      → strikeAnswer counts payoffs v c ≡ refused e
+      → Refused (tableGame counts payoffs) (marksOf v) c e
+      → strikeLeaves counts payoffs v c ≡ v
+      → Struck counts payoffs v cs ans w
       → Struck counts payoffs v (c ∷ cs) (refused e ∷ ans) w

@@ -17,7 +17,7 @@ use Rattle.survivors.specs.declared.Survivors.{Survivors}
 
 -- ---- the marks
 
--- whether player p's strategy s is marked: the one place that says what a mark of the record means
+-- which strategies the record marks: the theorems read its marks through this definition
 abbrev pub marksOf : Survivors → Marks
 marksOf v = marked (v .marks)
 
@@ -26,7 +26,7 @@ unfoldable pub withoutMark : Survivors → Strategy → Survivors
 withoutMark v c =
     record { players = v .players; counts = v .counts; marks = set (v .marks) (markPlace (c .player) (c .number)) false }
 
--- how many marks there are
+-- how many marks there are, wherever they stand
 unfoldable pub markCount : Survivors → ℕ
 markCount v = length (filter (λ b. b) (v .marks))
 
@@ -46,8 +46,8 @@ unlessRefused none v w = v
 unlessRefused (some e) v w = w
 
 -- the survivors beside a refusal: P 0, counts 0 and no mark
-abbrev pub nobody : Survivors
-nobody = freshOf []
+abbrev pub noSurvivors : Survivors
+noSurvivors = freshOf []
 
 -- ---- foreign survivors
 

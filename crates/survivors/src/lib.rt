@@ -1,7 +1,7 @@
 // Survivors and strikes: a strike takes a strategy out of a game because another surviving strategy of its player strictly dominates it
 // against all surviving choices of the others. Survivors are a record by value, and any record may be handed in.
 // Whatever list of strikes is made on a table, the equilibria listed over the survivors are the whole table's: demand 3, which the
-// contract of `strikes` has. The table is one value through all the calls of a list: nobody writes it meanwhile.
+// contract of `strikes` has. The table is one value through all the calls of a list: noSurvivors writes it meanwhile.
 use refusal::NormalFormError;
 use refusal::UnitResult;
 use refusal::UsizeOption;
@@ -11,21 +11,23 @@ use table::MAX_PLAYERS;
 use table::MAX_STRATEGIES;
 use table::StrategySpace;
 ghost use mathlib.Core.Path.{_≡_};
-ghost use mathlib.Core.Bool.{false};
+ghost use mathlib.Core.Bool.{cond};
 ghost use mathlib.Core.List.{map};
+ghost use mathlib.Core.Option.{none};
 ghost use Prim.Native.Nat.{min, _<_, _≤_};
-ghost use lib.ListN.{length, getD};
+ghost use lib.ListN.{length, set};
 ghost use Rattle.game.specs.Finite.{product};
 ghost use Rattle.game.specs.Game.{strategy as named};
 ghost use Rattle.game.specs.Strikes.{answer};
-ghost use Rattle.refusal.specs.Told.{values, refused, toldUnit, toldUsize, status, unless};
+ghost use Rattle.refusal.specs.Refusal.{numberOf};
+ghost use Rattle.refusal.specs.Told.{values, refused, toldUnit, toldUsize, status, tells, unless};
 ghost use Rattle.table.specs.Limits.{maxPlayers, maxStrategies, maxMarks};
 ghost use Rattle.table.specs.Table.{tableGame};
 ghost use Rattle.table.specs.Marks.{marked};
 ghost use Rattle.table.specs.Meaning.{Table};
 ghost use Rattle.table.specs.Checks.{tableRefusal};
 ghost use Rattle.table.specs.Outputs.{over};
-ghost use Rattle.survivors.specs.Survivors.{marksOf, withoutMark, allMarks, freshOf, unlessRefused, nobody, markedFrom, foreign};
+ghost use Rattle.survivors.specs.Survivors.{marksOf, withoutMark, allMarks, freshOf, unlessRefused, noSurvivors, markedFrom, foreign};
 ghost use Rattle.survivors.specs.Answers.{toldAnswer, handedBack, strikeAnswer, strikeLeaves, survivingAnswer, survivingChoices, survivingUtilities, callsOf, chain, acceptedOf, dominatorOf, strikesAnswer, strikesLeave, strikesWritten};
 ghost use Rattle.survivors.specs.Demand3.{Demand3};
 
@@ -47,6 +49,16 @@ pub struct FreshResult {
 pub struct StrikeResult {
     pub answer: UsizeResult,
     pub survivors: Survivors,
+}
+
+// A refusal beside survivors.
+fn refuse(error: NormalFormError, survivors: Survivors) -> StrikeResult
+    ensures { λ r. ⌜ (toldUsize (r .answer) ≡ refused (numberOf error)) × (r .survivors ≡ survivors) ⌝ }
+{
+    StrikeResult {
+        answer: UsizeResult::Err(error),
+        survivors: survivors,
+    }
 }
 
 // ---- fresh survivors
@@ -75,7 +87,7 @@ fn all_marked(space: StrategySpace) -> Survivors
 // The fresh survivors of a table: every strategy marked. Or the first of refusals 1 to 7, beside P 0, counts 0 and no mark.
 pub fn fresh(counts: &[usize], payoffs: &[f64]) -> FreshResult
     ensures { λ r. ⌜ toldUnit (r .answer) ≡ unless (tableRefusal (now (counts .entry)) (now (payoffs .entry))) tt ⌝ }
-    ensures { λ r. ⌜ r .survivors ≡ unlessRefused (tableRefusal (now (counts .entry)) (now (payoffs .entry))) (freshOf (now (counts .entry))) nobody ⌝ }
+    ensures { λ r. ⌜ r .survivors ≡ unlessRefused (tableRefusal (now (counts .entry)) (now (payoffs .entry))) (freshOf (now (counts .entry))) noSurvivors ⌝ }
 {
     let checked = table::payoff_matrix(counts, payoffs);
     let answer = checked.answer;
@@ -88,15 +100,13 @@ pub fn fresh(counts: &[usize], payoffs: &[f64]) -> FreshResult
 
 // What a list of strikes that 13 refuses hands back: 13 beside P 0, counts 0 and no mark.
 fn too_short() -> StrikeResult
-    ensures { λ r. ⌜ (toldUsize (r .answer) ≡ refused 13) × (r .survivors ≡ nobody) ⌝ }
+    ensures { λ r. ⌜ (toldUsize (r .answer) ≡ refused 13) × (r .survivors ≡ noSurvivors) ⌝ }
 {
-    StrikeResult {
-        answer: UsizeResult::Err(NormalFormError::OutputTooShort),
-        survivors: all_marked(StrategySpace {
-            players: 0,
-            counts: [0usize; MAX_PLAYERS],
-        }),
-    }
+    let space = StrategySpace {
+        players: 0,
+        counts: [0usize; MAX_PLAYERS],
+    };
+    refuse(NormalFormError::OutputTooShort, all_marked(space))
 }
 
 // ---- foreign survivors
@@ -176,23 +186,14 @@ fn strike_marked(
     ensures { λ r. ⌜ r .survivors ≡ handedBack survivors (named player strategy) (toldUsize (r .answer)) ⌝ }
 {
     if counts.len() <= player {
-        return StrikeResult {
-            answer: UsizeResult::Err(NormalFormError::InvalidPlayer),
-            survivors: survivors,
-        };
+        return refuse(NormalFormError::InvalidPlayer, survivors);
     }
     if counts[player] <= strategy {
-        return StrikeResult {
-            answer: UsizeResult::Err(NormalFormError::NoSurvivingStrategy),
-            survivors: survivors,
-        };
+        return refuse(NormalFormError::NoSurvivingStrategy, survivors);
     }
     let marks = survivors.marks;
     if !marks[player * MAX_STRATEGIES + strategy] {
-        return StrikeResult {
-            answer: UsizeResult::Err(NormalFormError::NoSurvivingStrategy),
-            survivors: survivors,
-        };
+        return refuse(NormalFormError::NoSurvivingStrategy, survivors);
     }
     match strict_dominance::lowest_dominator(
         counts,
@@ -203,10 +204,7 @@ fn strike_marked(
         player,
         strategy,
     ) {
-        UsizeOption::None => StrikeResult {
-            answer: UsizeResult::Err(NormalFormError::NotDominated),
-            survivors: survivors,
-        },
+        UsizeOption::None => refuse(NormalFormError::NotDominated, survivors),
         UsizeOption::Some(t) => StrikeResult {
             answer: UsizeResult::Ok(t),
             survivors: without_mark(survivors, player, strategy),
@@ -228,16 +226,10 @@ pub fn strike(
     ensures { λ r. ⌜ r .survivors ≡ strikeLeaves (now (counts .entry)) (now (payoffs .entry)) survivors (named player strategy) ⌝ }
 {
     match table::table_profile_count(counts, payoffs) {
-        UsizeResult::Err(e) => StrikeResult {
-            answer: UsizeResult::Err(e),
-            survivors: survivors,
-        },
+        UsizeResult::Err(e) => refuse(e, survivors),
         UsizeResult::Ok(profiles) => {
             if is_foreign(counts, survivors) {
-                return StrikeResult {
-                    answer: UsizeResult::Err(NormalFormError::ForeignSurvivors),
-                    survivors: survivors,
-                };
+                return refuse(NormalFormError::ForeignSurvivors, survivors);
             }
             strike_marked(counts, payoffs, profiles, survivors, player, strategy)
         }
@@ -281,19 +273,46 @@ fn lesser(a: usize, b: usize) -> usize
     if b < a { b } else { a }
 }
 
-// Runs the first `number` of the calls that the two lists name on a table without refusals, from its fresh survivors: the answers, the
-// dominators, how many were accepted, and the survivors.
+// Writes the answer to a strike at a place of the two outputs: 0 or the refusal's number, and the dominator, 0 where refused. 1 where it was
+// accepted, and else 0.
+fn write_answer(
+    answer: UsizeResult,
+    place: usize,
+    answers: &mut [u32],
+    dominators: &mut [usize],
+) -> usize
+    requires { ⌜ (place < length (now answers)) × (place < length (now dominators)) ⌝ }
+    ensures { λ r. ⌜ r ≡ cond (tells (toldUsize answer)) 1 0 ⌝ }
+    ensures { λ r. ⌜ now (answers .exit) ≡ set (now (answers .entry)) place (status (toldUsize answer)) ⌝ }
+    ensures { λ r. ⌜ now (dominators .exit) ≡ set (now (dominators .entry)) place (dominatorOf (toldUsize answer)) ⌝ }
+{
+    match answer {
+        UsizeResult::Ok(t) => {
+            answers[place] = 0;
+            dominators[place] = t;
+            1
+        }
+        UsizeResult::Err(e) => {
+            answers[place] = e.number();
+            dominators[place] = 0;
+            0
+        }
+    }
+}
+
+// Runs the calls that two lists name on a table without refusals, from its fresh survivors: how many were accepted, beside the survivors that
+// the last one handed back. Each answer is written.
 fn strike_each(
     counts: &[usize],
     payoffs: &[f64],
-    fresh: Survivors,
+    survivors: Survivors,
     players: &[usize],
     strategies: &[usize],
     answers: &mut [u32],
     dominators: &mut [usize],
 ) -> StrikeResult
     requires { ⌜ Table (now counts) (now payoffs) ⌝ }
-    requires { ⌜ fresh ≡ freshOf (now counts) ⌝ }
+    requires { ⌜ survivors ≡ freshOf (now counts) ⌝ }
     requires { ⌜ length (callsOf (now players) (now strategies)) ≤ length (now answers) ⌝ }
     requires { ⌜ length (callsOf (now players) (now strategies)) ≤ length (now dominators) ⌝ }
     ensures { λ r. ⌜ toldUsize (r .answer) ≡ values (acceptedOf (chain (now (counts .entry)) (now (payoffs .entry)) (callsOf (now (players .entry)) (now (strategies .entry))) .answers)) ⌝ }
@@ -302,25 +321,16 @@ fn strike_each(
     ensures { λ r. ⌜ now (dominators .exit) ≡ over (map dominatorOf (chain (now (counts .entry)) (now (payoffs .entry)) (callsOf (now (players .entry)) (now (strategies .entry))) .answers)) (now (dominators .entry)) ⌝ }
 {
     let number = lesser(players.len(), strategies.len());
+    // the table has P payoffs for each profile
     let profiles = payoffs.len() / counts.len();
-    let mut left = fresh;
+    let mut left = survivors;
     let mut accepted: usize = 0;
     let mut i: usize = 0;
     while i < number {
         let struck = strike_marked(counts, payoffs, profiles, left, players[i], strategies[i]);
         left = struck.survivors;
         let answer = struck.answer;
-        match answer {
-            UsizeResult::Ok(t) => {
-                answers[i] = 0;
-                dominators[i] = t;
-                accepted += 1;
-            }
-            UsizeResult::Err(e) => {
-                answers[i] = e.number();
-                dominators[i] = 0;
-            }
-        }
+        accepted += write_answer(answer, i, answers, dominators);
         i += 1;
     }
     StrikeResult {
@@ -333,7 +343,8 @@ fn strike_each(
 // strategies[i] are named by the i-th, and of unequal lists the shorter length counts. How many were accepted, beside the survivors; into
 // `answers` 0 or the refusal's number for each strike, and into `dominators` its dominator, 0 where refused. Elements past those written
 // keep their contents. Or the first of 1 to 7, and 13 where either output is shorter than the list, beside P 0, counts 0 and no mark, and
-// nothing is written. Its last `ensures` is demand 3, for every table and list: the table is one value through all the strikes.
+// nothing is written. Its last `ensures` is demand 3, for every table with none of refusals 1 to 7 and every list. The table is one value through
+// all the strikes: nobody writes it meanwhile.
 pub fn strikes(
     counts: &[usize],
     payoffs: &[f64],
@@ -346,16 +357,13 @@ pub fn strikes(
     ensures { λ r. ⌜ r .survivors ≡ strikesLeave (now (counts .entry)) (now (payoffs .entry)) (callsOf (now (players .entry)) (now (strategies .entry))) (length (now (answers .entry))) (length (now (dominators .entry))) ⌝ }
     ensures { λ r. ⌜ now (answers .exit) ≡ over (map status (strikesWritten (now (counts .entry)) (now (payoffs .entry)) (callsOf (now (players .entry)) (now (strategies .entry))) (length (now (answers .entry))) (length (now (dominators .entry))))) (now (answers .entry)) ⌝ }
     ensures { λ r. ⌜ now (dominators .exit) ≡ over (map dominatorOf (strikesWritten (now (counts .entry)) (now (payoffs .entry)) (callsOf (now (players .entry)) (now (strategies .entry))) (length (now (answers .entry))) (length (now (dominators .entry))))) (now (dominators .entry)) ⌝ }
-    ensures { λ r. ⌜ (Table (now (counts .entry)) (now (payoffs .entry)) → Demand3 (now (counts .entry)) (now (payoffs .entry)) (callsOf (now (players .entry)) (now (strategies .entry)))) ⌝ }
+    ensures { λ r. ⌜ (tableRefusal (now (counts .entry)) (now (payoffs .entry)) ≡ none → Demand3 (now (counts .entry)) (now (payoffs .entry)) (callsOf (now (players .entry)) (now (strategies .entry)))) ⌝ }
 {
     let made = fresh(counts, payoffs);
     let answer = made.answer;
     let survivors = made.survivors;
     match answer {
-        UnitResult::Err(e) => StrikeResult {
-            answer: UsizeResult::Err(e),
-            survivors: survivors,
-        },
+        UnitResult::Err(e) => refuse(e, survivors),
         UnitResult::Ok => {
             let number = lesser(players.len(), strategies.len());
             if answers.len() < number {

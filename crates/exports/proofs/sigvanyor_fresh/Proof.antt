@@ -1,15 +1,13 @@
 -- `exports::sigvanyor_fresh` meets its contract, by what the call told. Assumes nothing.
 use mathlib.Core.Path.{_≡_, sym, ap, _∙_}
-use mathlib.Core.List.{List}
 use mathlib.Core.Option.{none}
-use Prim.Native.Nat.{ℕ}
 use borrow.Author.Needs.{needs}
 use Rattle.refusal.specs.Refusal.{Refusal}
 use Rattle.refusal.specs.Told.{status, unless, toldUnit}
 use Rattle.refusal.proofs.Told.{told-values, refused-again}
 use Rattle.table.specs.Checks.{tableRefusal}
 use Rattle.survivors.specs.declared.Survivors.{Survivors}
-use Rattle.survivors.specs.Survivors.{freshOf, unlessRefused, nobody}
+use Rattle.survivors.specs.Survivors.{freshOf, unlessRefused, noSurvivors}
 use Rattle.exports.specs.Status.{output, markBytes}
 use Rattle.exports.proofs.Outputs.{told-err}
 use Rattle.exports.proofs.sigvanyor_fresh.Statement.{statement}
@@ -38,7 +36,7 @@ returns c =
     let cs = a .counts .now in
     let r : Refusal = tableRefusal cs (a .payoffs .now) in
     let ok : r ≡ none = told-values r tt tt (sym (ap toldUnit (t .enum-told .given .1)) ∙ f .fresh .ensures .0) .0 in
-    let is : f .fresh .result .survivors ≡ freshOf cs = f .fresh .ensures .1 ∙ ap (λ (r : Refusal). unlessRefused r (freshOf cs) nobody) ok in
+    let is : f .fresh .result .survivors ≡ freshOf cs = f .fresh .ensures .1 ∙ ap (λ (r : Refusal). unlessRefused r (freshOf cs) noSurvivors) ok in
     let e = c .survivors-into .ensures in (
       sym (ap (λ (r : Refusal). status (unless r (freshOf cs))) ok),
       (

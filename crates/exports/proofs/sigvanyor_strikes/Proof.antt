@@ -1,13 +1,12 @@
 -- `exports::sigvanyor_strikes` meets its contract, by what the call told, wrote and handed back. Assumes nothing.
-use mathlib.Core.Path.{_≡_, sym, ap, _∙_}
+use mathlib.Core.Path.{sym, ap, _∙_}
 use mathlib.Core.List.{List}
 use Prim.Native.Nat.{ℕ}
 use borrow.Author.Needs.{needs}
 use lib.ListN.{length}
-use Rattle.game.specs.Game.{Strategy}
 use Rattle.refusal.specs.Told.{Told, toldUsize}
 use Rattle.survivors.specs.declared.Survivors.{Survivors}
-use Rattle.survivors.specs.Answers.{callsOf, strikesAnswer, strikesLeave}
+use Rattle.survivors.specs.Answers.{callsOf, strikesAnswer}
 use Rattle.exports.specs.Status.{markBytes}
 use Rattle.exports.proofs.Outputs.{told-ok, told-err}
 use Rattle.exports.proofs.sigvanyor_strikes.Statement.{statement}

@@ -12,7 +12,7 @@ use Rattle.table.specs.Answers.{spaceOf, spaceUnless}
 use Rattle.table.specs.declared.StrategySpace.{StrategySpace}
 use Rattle.table.proofs.Checks.{table-law}
 use Rattle.survivors.specs.declared.Survivors.{Survivors}
-use Rattle.survivors.specs.Survivors.{allMarks, freshOf, unlessRefused, nobody}
+use Rattle.survivors.specs.Survivors.{allMarks, freshOf, unlessRefused, noSurvivors}
 use Rattle.survivors.proofs.Marks.{fresh-is}
 use Rattle.survivors.proofs.fresh.Statement.{statement}
 use Rattle.survivors.proofs.fresh.Tie as tie
@@ -20,7 +20,7 @@ use Rattle.survivors.proofs.fresh.Tie as tie
 -- the survivors of the space beside a check's answer
 made : (counts : List ℕ) (payoffs : List Float) (r : Refusal) → tableRefusal counts payoffs ≡ r → (w : StrategySpace) → w ≡ spaceUnless r counts
     → (v : Survivors) → (v .players ≡ w .players) × (v .counts ≡ w .counts) × (v .marks ≡ allMarks (w .counts))
-    → v ≡ unlessRefused r (freshOf counts) nobody
+    → v ≡ unlessRefused r (freshOf counts) noSurvivors
 unfolding spaceOf
 made counts payoffs none h w e v (a, b, d) =
     fresh-is counts v (table-law counts payoffs .0 h .shape .few) (a ∙ ap (λ w. w .players) e) (b ∙ ap (λ w. w .counts) e) (d ∙ ap (λ w. allMarks (w .counts)) e)

@@ -11,10 +11,9 @@ use lib.Dec.{T}
 use lib.ListN.{length, getD}
 use Rattle.survivors.specs.declared.Survivors.{Survivors}
 use mathlib.Core.List.{List}
-use Rattle.table.specs.Limits.{maxPlayers, maxStrategies, maxMarks}
+use Rattle.table.specs.Limits.{maxPlayers}
 use Rattle.table.specs.Marks.{marked}
-use Rattle.survivors.specs.Survivors.{markedFrom, foreign}
-use Rattle.survivors.specs.Meaning.{Own}
+use Rattle.survivors.specs.Survivors.{markedFrom}
 use Rattle.survivors.proofs.Foreign.{OwnTo, own-start, own-more, own-all, own-marked, own-none, own-not, not-own}
 use Rattle.survivors.proofs.is_foreign.Statement.{statement}
 use Rattle.survivors.proofs.is_foreign.Tie as tie

@@ -6,14 +6,12 @@ use mathlib.Core.Logic.{⊎-elim}
 use Prim.Native.Nat.{ℕ, _+_, _*_, _-_, _≤_, _<_}
 use native.Mathlib.Nat.{eq-or-lt-of-le}
 use native.Mathlib.Omega.{arith}
-use borrow.Author.Tests.{not-false}
 use lib.Dec.{T}
-use lib.ListN.{length, getD}
+use lib.ListN.{getD}
 use Rattle.game.proofs.Finite.{test-true, test-false}
-use Rattle.table.specs.Limits.{maxPlayers, maxStrategies, maxMarks}
+use Rattle.table.specs.Limits.{maxStrategies, maxMarks}
 use Rattle.table.specs.Marks.{marked}
 use Rattle.table.proofs.Walk.{mark-at, mark-inside}
-use Rattle.survivors.specs.Survivors.{markedFrom}
 use Rattle.survivors.proofs.Foreign.{marked-from-law}
 use Rattle.survivors.proofs.marked_from.Statement.{statement}
 use Rattle.survivors.proofs.marked_from.Tie as tie

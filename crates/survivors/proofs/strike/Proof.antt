@@ -44,28 +44,38 @@ table-profile-count-requires c κs = search needs
 enum-known-e : tie.Need-enum-known-e
 enum-known-e c = search needs
 
+refuse-requires : tie.Need-refuse-requires
+refuse-requires c κs = search needs
+
 enum-known-profiles : tie.Need-enum-known-profiles
 enum-known-profiles c = search needs
 
 is-foreign-requires : tie.Need-is-foreign-requires
 is-foreign-requires c κs = checked (c .before) .table .shape .few
 
+refuse-requires-2 : tie.Need-refuse-requires-2
+refuse-requires-2 c κs = search needs
+
 returns : tie.Need-returns
 returns c =
-    let a = c .before .before .before in
+    let f = c .before .before in
+    let a = f .before .before in
     let k = start a in
-    strike-refused (cs k) (ps k) (v k) (call k) ForeignSurvivors (then-foreign (cs k) (ps k) (v k) (checked a .none-applies) (sym (c .before .is-foreign .ensures) ∙ c .if1 .taken))
+    let r = c .refuse2 .ensures in
+    let is = strike-refused (cs k) (ps k) (v k) (call k) ForeignSurvivors (then-foreign (cs k) (ps k) (v k) (checked a .none-applies) (sym (f .is-foreign .ensures) ∙ c .before .if1 .taken)) in
+    (r .0 ∙ is .0, r .1 ∙ is .1)
 
 strike-marked-requires : tie.Need-strike-marked-requires
 strike-marked-requires c κs = let f = checked (c .before .before .before) in (f .table, f .is)
 
 returns-2 : tie.Need-returns-2
 returns-2 c =
-    let a = c .before in
+    let a = c .before .before in
     let k = a .before .before .before .before .before in
+    let r = c .refuse .ensures in
     let (e, is, number) = told-refused (tableRefusal (cs k) (ps k)) _ _ (sym (ap toldUsize (a .e .given .1)) ∙ a .before .before .table-profile-count .ensures) in
-    let r = strike-refused (cs k) (ps k) (v k) (call k) e (table-first (cs k) (ps k) (v k) e is) in
-    (ap (λ (n : ℕ). refused n) number ∙ r .0, r .1)
+    let kept = strike-refused (cs k) (ps k) (v k) (call k) e (table-first (cs k) (ps k) (v k) e is) in
+    (r .0 ∙ ap (λ (n : ℕ). refused n) number ∙ kept .0, r .1 ∙ kept .1)
 
 returns-3 : tie.Need-returns-3
 unfolding strikeLeaves
@@ -84,8 +94,10 @@ strike-spec =
     (tie.spec
     table-profile-count-requires
     enum-known-e
+    refuse-requires
     enum-known-profiles
     is-foreign-requires
+    refuse-requires-2
     returns
     strike-marked-requires
     returns-2

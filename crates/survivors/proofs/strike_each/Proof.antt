@@ -1,24 +1,21 @@
 -- `survivors::strike_each` meets its contract. The invariant: the first i calls were run, and their answers are written. Assumes nothing.
-use mathlib.Core.Path.{_≡_, sym, ap, _∙_, subst⁻¹}
-use mathlib.Core.Bool.{cond}
+use mathlib.Core.Path.{_≡_, refl, sym, ap, _∙_, subst⁻¹}
+use mathlib.Core.Bool.{Bool, true, false, cond}
 use mathlib.Core.List.{List, map}
-use mathlib.Core.Logic.{⊎-elim}
 use Prim.Native.Nat.{ℕ, _+_, _/_, _-_, _≤_, _<_}
-use native.Mathlib.Nat.{add-zero, mul-div-cancel}
+use native.Mathlib.Nat.{mul-div-cancel}
 use native.Mathlib.Omega.{arith}
-use borrow.Author.Needs.{needs}
 use lib.ListN.{length, getD, set, take}
 use lib.Seq.{take-all}
 use lib.Ieee.{Float}
 use Rattle.game.specs.Finite.{product}
 use Rattle.game.specs.Game.{Strategy, strategy}
-use Rattle.refusal.specs.Refusal.{numberOf}
-use Rattle.refusal.specs.Told.{Told, values, refused, toldUsize, status, tells}
+use Rattle.refusal.specs.Told.{Told, values, toldUsize, status, tells}
 use Rattle.table.specs.Meaning.{Table}
 use Rattle.table.specs.Outputs.{over}
 use Rattle.survivors.specs.declared.Survivors.{Survivors}
 use Rattle.survivors.specs.Answers.{handedBack, strikeAnswer, strikeLeaves, callsOf, Chain, chain, acceptedOf, dominatorOf}
-use Rattle.survivors.proofs.Chain.{Kept, told}
+use Rattle.survivors.proofs.Chain.{Good, told}
 use Rattle.survivors.proofs.Demand3.{from-fresh}
 use Rattle.survivors.proofs.Written.{calls-length, calls-at, Written, written-none, written-few, first-length, second-length, written-more}
 use Rattle.survivors.proofs.strike_each.Statement.{statement}
@@ -115,47 +112,8 @@ strike-marked-requires c κs =
     let t = table (c .before .before .before) in
     (t, ap (λ (n : ℕ). n / length (cs (c .before .before .before))) (t .full) ∙ mul-div-cancel (product (cs (c .before .before .before))) (t .shape .some))
 
-enum-known-answer : tie.Need-enum-known-answer Inv-loop μ-loop
-enum-known-answer c = search needs
-
-mul-answers : tie.Need-mul-answers Inv-loop μ-loop
-mul-answers c = omega (arith, room (c .before .before .before .before .before .before .before))
-
-slice-write-answers : tie.Need-slice-write-answers Inv-loop μ-loop
-slice-write-answers c = room (c .before .before .before .before .before .before .before) .2
-
-mul-dominators : tie.Need-mul-dominators Inv-loop μ-loop
-mul-dominators c = omega (arith, room (c .before .before .before .before .before .before .before))
-
-slice-write-dominators : tie.Need-slice-write-dominators Inv-loop μ-loop
-slice-write-dominators c = room (c .before .before .before .before .before .before .before) .3
-
-add-accepted : tie.Need-add-accepted Inv-loop μ-loop
-add-accepted c = let n = c .before .before .before .before .before .before .before in omega (arith, few n, room n)
-
-enum-known-answer-2 : tie.Need-enum-known-answer-2 Inv-loop μ-loop
-enum-known-answer-2 c = search needs
-
-number-requires : tie.Need-number-requires Inv-loop μ-loop
-number-requires c κs = tt
-
-mul-answers-2 : tie.Need-mul-answers-2 Inv-loop μ-loop
-mul-answers-2 c = omega (arith, room (c .before .before .before .before .before .before .before .before))
-
-slice-write-answers-2 : tie.Need-slice-write-answers-2 Inv-loop μ-loop
-slice-write-answers-2 c = room (c .before .before .before .before .before .before .before .before) .2
-
-mul-dominators-2 : tie.Need-mul-dominators-2 Inv-loop μ-loop
-mul-dominators-2 c = omega (arith, room (c .before .before .before .before .before .before .before .before))
-
-slice-write-dominators-2 : tie.Need-slice-write-dominators-2 Inv-loop μ-loop
-slice-write-dominators-2 c = room (c .before .before .before .before .before .before .before .before) .3
-
-add-i : tie.Need-add-i Inv-loop μ-loop
-add-i c = omega (arith, room (c .before .before .before .before .before))
-
-loop-less : tie.Need-loop-less Inv-loop μ-loop
-loop-less c = omega (arith, c .before .before .before .before .before .loop-test)
+write-answer-requires : tie.Need-write-answer-requires Inv-loop μ-loop
+write-answer-requires c κs = let r = room (c .before .before .before .before .before .before) in (r .2, r .3)
 
 -- what the strike answers and hands back is the next of the chain
 module _ (c : tie.After-strike-marked Inv-loop μ-loop) where
@@ -165,13 +123,13 @@ module _ (c : tie.After-strike-marked Inv-loop μ-loop) where
   abbrev before : Survivors
   before = turn .before .loop .left
 
-  kept : Kept (cs (turn .before)) (ps (turn .before)) before
-  kept =
+  good : Good (cs (turn .before)) (ps (turn .before)) before
+  good =
       let l = turn .before in
-      subst⁻¹ (Kept (cs l) (ps l)) (l .loop .inv .survivors) (from-fresh (cs l) (ps l) (table l) (take (i l) (calls l)) .stays)
+      subst⁻¹ (Good (cs l) (ps l)) (l .loop .inv .survivors) (from-fresh (cs l) (ps l) (table l) (take (i l) (calls l)) .stays)
 
   answers-so : toldUsize (c .strike-marked .result .answer) ≡ strikeAnswer (cs (turn .before)) (ps (turn .before)) before (call turn)
-  answers-so = let l = turn .before in c .strike-marked .ensures .0 ∙ sym (told (cs l) (ps l) (table l) before kept (call turn))
+  answers-so = let l = turn .before in c .strike-marked .ensures .0 ∙ sym (told (cs l) (ps l) (table l) before good (call turn))
 
   leaves-so : c .strike-marked .result .survivors ≡ strikeLeaves (cs (turn .before)) (ps (turn .before)) before (call turn)
   unfolding strikeLeaves
@@ -191,17 +149,30 @@ module _ (c : tie.After-strike-marked Inv-loop μ-loop) where
         (call turn) (λ d. calls-at (s .args .players .now) (s .args .strategies .now) (i l) d (under turn)) a (sym is ∙ answers-so) (c .strike-marked .result .survivors) leaves-so
         accepted x answers dominators y z
 
+-- the loop's turn, from its end
+abbrev struck : tie.After-slice-known4 Inv-loop μ-loop → tie.After-strike-marked Inv-loop μ-loop
+struck c = c .before .before .before .before .before .before .before .before
+
+add-accepted : tie.Need-add-accepted Inv-loop μ-loop
+add-accepted c =
+    let n = turn (struck c) in
+    let r = c .before .before .before .before .write-answer .ensures .0 in
+    omega (arith, few n, room n, r, one (tells (toldUsize (struck c .strike-marked .result .answer))))
+  where
+    one : (t : Bool) → cond t 1 0 ≤ 1
+    one true = omega arith
+    one false = omega arith
+
+add-i : tie.Need-add-i Inv-loop μ-loop
+add-i c = omega (arith, room (turn (struck c)))
+
+loop-less : tie.Need-loop-less Inv-loop μ-loop
+loop-less c = omega (arith, turn (struck c) .loop-test)
+
 loop-again : tie.Need-loop-again Inv-loop μ-loop
 loop-again c =
-    let m = c .match in
-    let k = c .before .before in
-    ⊎-elim (λ w. next k (values (w .1 .given .0 .0)) (ap toldUsize (w .1 .given .1)) (m .accepted) (m .answers) (m .dominators) (w .5) (w .3) (w .4))
-    (λ w.
-    let e = w .1 .given .0 .0 in
-    let l = turn k .before in
-    next k (refused (numberOf e)) (ap toldUsize (w .1 .given .1)) (m .accepted) (m .answers) (m .dominators) (w .6 ∙ sym (add-zero _))
-    (w .4 ∙ ap (λ (n : ℕ). set (l .loop .answers) (i l) n) (w .3 .ensures)) (w .5))
-    (m .came)
+    let w = c .before .before .before .before .write-answer in
+    next (struck c) _ refl _ _ _ (ap (λ (n : ℕ). turn (struck c) .before .loop .accepted + n) (w .ensures .0)) (w .ensures .1 .0) (w .ensures .1 .1)
 
 same-length : tie.Need-same-length Inv-loop μ-loop
 same-length c = outputs (c .before) .0
@@ -239,18 +210,8 @@ strike-each-spec =
     mul-strike-marked-2
     shared-slice-read-strike-marked-2
     strike-marked-requires
-    enum-known-answer
-    mul-answers
-    slice-write-answers
-    mul-dominators
-    slice-write-dominators
+    write-answer-requires
     add-accepted
-    enum-known-answer-2
-    number-requires
-    mul-answers-2
-    slice-write-answers-2
-    mul-dominators-2
-    slice-write-dominators-2
     add-i
     loop-less
     loop-again

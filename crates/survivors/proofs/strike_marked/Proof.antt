@@ -1,6 +1,6 @@
 -- `survivors::strike_marked` meets its contract, by the cases of the rule. Assumes nothing.
-use mathlib.Core.Path.{_≡_, refl, sym, ap, _∙_, subst}
-use mathlib.Core.Bool.{Bool, true, false}
+use mathlib.Core.Path.{_≡_, sym, ap, _∙_, subst}
+use mathlib.Core.Bool.{true, false}
 use mathlib.Core.List.{List}
 use Prim.Native.Nat.{ℕ, _+_, _*_, _<_}
 use native.Mathlib.Omega.{arith}
@@ -18,7 +18,7 @@ use Rattle.table.specs.Limits.{maxPlayers, maxStrategies, maxMarks}
 use Rattle.table.specs.Marks.{marked}
 use Rattle.table.proofs.Walk.{mark-at, mark-inside}
 use Rattle.survivors.specs.declared.Survivors.{Survivors}
-use Rattle.survivors.specs.Answers.{toldAnswer}
+use Rattle.survivors.specs.Answers.{toldAnswer, handedBack}
 use Rattle.survivors.proofs.Cases.{told-player, told-struck, told-by}
 use Rattle.survivors.proofs.strike_marked.Statement.{statement}
 use Rattle.survivors.proofs.strike_marked.Tie as tie
@@ -53,8 +53,14 @@ module _ (k : tie.Start) where
     read : marked (v .marks) p s ≡ getD (v .marks) (p * maxStrategies + s) false
     read = mark-at (v .marks) p s low
 
+refuse-requires : tie.Need-refuse-requires
+refuse-requires c κs = search needs
+
 returns : tie.Need-returns
-returns c = let k = c .before .before .before in (told-player (cs k) (ps k) (marked (v k .marks)) (p k) (s k) (c .if1 .taken), refl)
+returns c =
+    let k = c .before .before .before .before in
+    let r = c .refuse .ensures in
+    (r .0 ∙ told-player (cs k) (ps k) (marked (v k .marks)) (p k) (s k) (c .before .if1 .taken), r .1 ∙ sym (ap (handedBack (v k) (strategy (p k) (s k))) (r .0)))
 
 mul-if2 : tie.Need-mul-if2
 mul-if2 c = search needs
@@ -62,10 +68,17 @@ mul-if2 c = search needs
 shared-slice-read-if2 : tie.Need-shared-slice-read-if2
 shared-slice-read-if2 c = search needs
 
+refuse-requires-2 : tie.Need-refuse-requires-2
+refuse-requires-2 c κs = search needs
+
 returns-2 : tie.Need-returns-2
 returns-2 c =
-    let k = c .before .before .before .before .before in
-    (told-struck (cs k) (ps k) (marked (v k .marks)) (p k) (s k) (c .before .before .if1 .left) (λ h. absurd (omega (arith, h, c .if2 .taken))), refl)
+    let k = c .before .before .before .before .before .before in
+    let r = c .refuse2 .ensures in (
+      r .0
+          ∙ told-struck (cs k) (ps k) (marked (v k .marks)) (p k) (s k) (c .before .before .before .if1 .left) (λ h. absurd (omega (arith, h, c .before .if2 .taken))),
+      r .1 ∙ sym (ap (handedBack (v k) (strategy (p k) (s k))) (r .0)),
+    )
 
 -- the strategy that the call names is one of the table's
 module _ (c : tie.After-marks) where
@@ -87,11 +100,18 @@ add-if3 c = omega (arith, inside (start c) (mine c) (its c))
 array-read-if3 : tie.Need-array-read-if3
 array-read-if3 c = inside (start c) (mine c) (its c)
 
+refuse-requires-3 : tie.Need-refuse-requires-3
+refuse-requires-3 c κs = search needs
+
 returns-3 : tie.Need-returns-3
 returns-3 c =
-    let a = c .before in
+    let a = c .before .before in
     let k = start a in
-    (told-struck (cs k) (ps k) (marked (v k .marks)) (p k) (s k) (mine a) (λ _ m. subst T (read k (mine a) (its a) ∙ not-true _ (c .if3 .taken)) m), refl)
+    let r = c .refuse3 .ensures in (
+      r .0
+          ∙ told-struck (cs k) (ps k) (marked (v k .marks)) (p k) (s k) (mine a) (λ _ m. subst T (read k (mine a) (its a) ∙ not-true _ (c .before .if3 .taken)) m),
+      r .1 ∙ sym (ap (handedBack (v k) (strategy (p k) (s k))) (r .0)),
+    )
 
 slice-aggregate-lowest-dominator : tie.Need-slice-aggregate-lowest-dominator
 slice-aggregate-lowest-dominator c = search needs
@@ -103,6 +123,9 @@ lowest-dominator-requires c κs =
 
 enum-told : tie.Need-enum-told
 enum-told c = search needs
+
+refuse-requires-4 : tie.Need-refuse-requires-4
+refuse-requires-4 c κs = search needs
 
 enum-known-t : tie.Need-enum-known-t
 enum-known-t c = search needs
@@ -123,7 +146,12 @@ told c =
 
 returns-4 : tie.Need-returns-4
 returns-4 c =
-    (sym (ap (λ (o : UsizeOption). toldAnswer (ruling true true (optionUsize o))) (c .enum-told .given .1)) ∙ told (c .before .before), refl)
+    let d = c .before .before .before in
+    let k = start (d .before .before .before) in
+    let r = c .refuse4 .ensures in (
+      r .0 ∙ sym (ap (λ (o : UsizeOption). toldAnswer (ruling true true (optionUsize o))) (c .before .enum-told .given .1)) ∙ told d,
+      r .1 ∙ sym (ap (handedBack (v k) (strategy (p k) (s k))) (r .0)),
+    )
 
 returns-5 : tie.Need-returns-5
 returns-5 c =
@@ -133,17 +161,21 @@ pub strike-marked-spec : {M : Type 1} → statement M
 strike-marked-spec =
     tie.close
     (tie.spec
+    refuse-requires
     returns
     mul-if2
     shared-slice-read-if2
+    refuse-requires-2
     returns-2
     mul-if3
     add-if3
     array-read-if3
+    refuse-requires-3
     returns-3
     slice-aggregate-lowest-dominator
     lowest-dominator-requires
     enum-told
+    refuse-requires-4
     enum-known-t
     without-mark-requires
     returns-4

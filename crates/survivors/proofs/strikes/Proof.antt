@@ -3,7 +3,7 @@
 use mathlib.Core.Path.{_≡_, sym, ap, ap₂, _∙_}
 use mathlib.Core.List.{List, map}
 use mathlib.Core.Option.{none, some}
-use Prim.Native.Nat.{ℕ, _≤_}
+use Prim.Native.Nat.{ℕ}
 use native.Mathlib.Omega.{arith}
 use borrow.Author.Needs.{needs}
 use lib.ListN.{length}
@@ -15,12 +15,11 @@ use Rattle.refusal.specs.declared.NormalFormError.{NormalFormError}
 use Rattle.refusal.specs.declared.NormalFormError.the-variants.{OutputTooShort}
 use Rattle.refusal.proofs.Told.{told-values, told-refused}
 use Rattle.table.specs.Checks.{tableRefusal}
-use Rattle.table.specs.Meaning.{Table}
 use Rattle.table.specs.Outputs.{roomRefusal, over}
 use Rattle.table.proofs.Checks.{table-law}
 use Rattle.table.proofs.Outputs.{first-short, second-short, room-fits}
 use Rattle.survivors.specs.declared.Survivors.{Survivors}
-use Rattle.survivors.specs.Survivors.{freshOf, unlessRefused, nobody}
+use Rattle.survivors.specs.Survivors.{freshOf, unlessRefused, noSurvivors}
 use Rattle.survivors.specs.Answers.{callsOf, dominatorOf, strikesRefusal, strikesAnswer, strikesLeave, strikesWritten}
 use Rattle.survivors.specs.Demand3.{Demand3}
 use Rattle.survivors.proofs.Demand3.{demand-3}
@@ -54,9 +53,9 @@ module _ (s : tie.Start) where
       × ((v ≡ strikesLeave cs ps calls (length told) (length by))
       × ((out ≡ over (map status (strikesWritten cs ps calls (length told) (length by))) told)
       × ((out′ ≡ over (map dominatorOf (strikesWritten cs ps calls (length told) (length by))) by)
-      × (Table cs ps → Demand3 cs ps calls))))
+      × (tableRefusal cs ps ≡ none → Demand3 cs ps calls))))
 
-  due-refused : (e : NormalFormError) → refusal ≡ some e → (r : Told ℕ) → r ≡ refused (numberOf e) → (v : Survivors) → v ≡ nobody → Due r v told by
+  due-refused : (e : NormalFormError) → refusal ≡ some e → (r : Told ℕ) → r ≡ refused (numberOf e) → (v : Survivors) → v ≡ noSurvivors → Due r v told by
   due-refused e h r x v y =
       let (a, b, c) = strikes-refused cs ps calls (length told) (length by) e h in (
         x ∙ a,
@@ -64,7 +63,7 @@ module _ (s : tie.Start) where
           y ∙ b,
           (
             ap (λ (xs : List (Told ℕ)). over (map status xs) told) c,
-            (ap (λ (xs : List (Told ℕ)). over (map dominatorOf xs) by) c, λ t. demand-3 cs ps t calls),
+            (ap (λ (xs : List (Told ℕ)). over (map dominatorOf xs) by) c, λ t. demand-3 cs ps (table-law cs ps .0 t) calls),
           ),
         ),
       )
@@ -95,6 +94,9 @@ fresh-requires c κs = search needs
 
 enum-known-answer : tie.Need-enum-known-answer
 enum-known-answer c = search needs
+
+refuse-requires : tie.Need-refuse-requires
+refuse-requires c κs = search needs
 
 enum-told : tie.Need-enum-told
 enum-told c = search needs
@@ -128,18 +130,20 @@ strike-each-requires c κs =
     let s = own l in (
       table-law (cs s) (ps s) .0 (none-applies l),
       (
-        l .before .before .before .before .fresh .ensures .1 ∙ ap (λ (r : Refusal). unlessRefused r (freshOf (cs s)) nobody) (none-applies l),
+        l .before .before .before .before .fresh .ensures .1 ∙ ap (λ (r : Refusal). unlessRefused r (freshOf (cs s)) noSurvivors) (none-applies l),
         (omega (arith, number l, b .before .if1), omega (arith, number l, b .if2)),
       ),
     )
 
 returns-3 : tie.Need-returns-3
 returns-3 c =
-    let f = c .before .before .before .before in
+    let t = c .before .before in
+    let f = t .before .before .before in
     let s = start f in
-    let (e, is, n) = told-refused (tableRefusal (cs s) (ps s)) tt _ (sym (ap toldUnit (c .before .answer .given .1)) ∙ f .fresh .ensures .0) in
-    due-refused s e (ap (λ (r : Refusal). r then roomRefusal (length (calls s)) (length (told s)) (length (by s))) is) _ (ap (λ (m : ℕ). refused m) n) _
-    (f .fresh .ensures .1 ∙ ap (λ (r : Refusal). unlessRefused r (freshOf (cs s)) nobody) is)
+    let r = c .refuse .ensures in
+    let (e, is, n) = told-refused (tableRefusal (cs s) (ps s)) tt _ (sym (ap toldUnit (t .answer .given .1)) ∙ f .fresh .ensures .0) in
+    due-refused s e (ap (λ (r : Refusal). r then roomRefusal (length (calls s)) (length (told s)) (length (by s))) is) _ (r .0 ∙ ap (λ (m : ℕ). refused m) n) _
+    (r .1 ∙ f .fresh .ensures .1 ∙ ap (λ (r : Refusal). unlessRefused r (freshOf (cs s)) noSurvivors) is)
 
 same-length : tie.Need-same-length
 same-length c = search needs
@@ -160,7 +164,7 @@ returns-4 c =
         e .1 .0 ∙ run .1,
         (
           e .1 .1 .0 ∙ ap (λ (xs : List (Told ℕ)). over (map status xs) (told s)) (run .2),
-          (e .1 .1 .1 ∙ ap (λ (xs : List (Told ℕ)). over (map dominatorOf xs) (by s)) (run .2), λ t. demand-3 (cs s) (ps s) t (calls s)),
+          (e .1 .1 .1 ∙ ap (λ (xs : List (Told ℕ)). over (map dominatorOf xs) (by s)) (run .2), λ t. demand-3 (cs s) (ps s) (table-law (cs s) (ps s) .0 t) (calls s)),
         ),
       ),
     )
@@ -171,6 +175,7 @@ strikes-spec =
     (tie.spec
     fresh-requires
     enum-known-answer
+    refuse-requires
     enum-told
     lesser-requires
     too-short-requires
