@@ -115,7 +115,7 @@ fn listing(
     choices: &mut [usize],
     utilities: &mut [f64],
 ) {
-    text(b": equilibria");
+    text(b" equilibria");
     told_usize(survivors::surviving_equilibria(counts, payoffs, left, choices, utilities));
     text(b",");
     numbers(choices);
@@ -144,6 +144,7 @@ fn list_into(counts: &[usize], payoffs: &[f64], left: Survivors, a: usize, b: us
 
 fn of_listing(name: &[u8], counts: &[usize], payoffs: &[f64], left: Survivors, a: usize, b: usize) {
     text(name);
+    text(b":");
     list_into(counts, payoffs, left, a, b);
     text(b"\n");
 }
@@ -176,7 +177,7 @@ fn listed(
     answers: &mut [u32],
     dominators: &mut [usize],
 ) {
-    text(b": strikes");
+    text(b" strikes");
     let struck = survivors::strikes(counts, payoffs, players, strategies, answers, dominators);
     let answer = struck.answer;
     let left = struck.survivors;
@@ -225,6 +226,7 @@ fn of_strikes(
     b: usize,
 ) {
     text(name);
+    text(b":");
     strike_into(counts, payoffs, players, strategies, a, b);
     text(b"\n");
 }
@@ -494,7 +496,9 @@ fn of_fault(name: &[u8], counts: &[usize], payoffs: &[f64]) {
     told_fresh(survivors::fresh(counts, payoffs));
     text(b"; strike");
     told_strike(survivors::strike(counts, payoffs, left, counts.len(), usize::MAX));
+    text(b";");
     list_into(counts, payoffs, left, 0, 0);
+    text(b";");
     strike_into(counts, payoffs, &[0], &[0], 0, 0);
     text(b"\n");
 }
@@ -546,6 +550,7 @@ fn of_small(payoffs: &[f64], left: Survivors) {
     let small = first(payoffs, SMALL);
     text(b": strike");
     told_strike(survivors::strike(&[2, 3, 4], small, left, 0, 0));
+    text(b";");
     list_into(&[2, 3, 4], small, left, 3, 4);
     text(b"\n");
 }
@@ -653,8 +658,8 @@ fn foreign(payoffs: &[f64]) {
 
 // ---- the limits
 
-// One player with the most strategies, the most players, and the most cells, where the payoff at each place i is i.
-fn limits(payoffs: &[f64]) {
+// The most strategies of a player, one less, and one more. Where the payoff at each place i is i, a later choice is a better one.
+fn strategies(payoffs: &[f64]) {
     let most = MAX_STRATEGIES;
     of_game(
         b"the most strategies",
@@ -663,24 +668,67 @@ fn limits(payoffs: &[f64]) {
         &[0, 0, 0, 0, 0],
         &[most - 1, most - 2, most, 0, most - 3],
     );
+    of_game(
+        b"a strategy less",
+        &[most - 1],
+        first(payoffs, most - 1),
+        &[0, 0, 0, 0],
+        &[most - 1, most - 2, most - 3, 0],
+    );
+    of_fault(
+        b"a strategy too many",
+        &[most + 1],
+        first(payoffs, most + 1),
+    );
+}
+
+// The most players, one less, and one more. The last strategy of the last player has the last place of the record.
+fn players(payoffs: &[f64]) {
+    let most = MAX_STRATEGIES;
     let last = MAX_PLAYERS - 1;
     let mut counts = [1; MAX_PLAYERS];
     counts[0] = 2;
-    counts[last] = 3;
+    counts[last] = most;
     of_game(
         b"the most players",
         &counts,
-        first(payoffs, 6 * MAX_PLAYERS),
-        &[last, last + 1, 0, last, last - 1, 0],
-        &[1, 0, 0, 0, 0, 1],
+        first(payoffs, 2 * MAX_MARKS),
+        &[last, last + 1, 0, last, last, last - 1, 0],
+        &[most - 2, 0, 0, most - 1, most, 0, 1],
     );
+    let mut fewer = [1; MAX_PLAYERS - 1];
+    fewer[0] = 2;
     of_game(
-        b"large",
+        b"a player less",
+        &fewer,
+        first(payoffs, 2 * (MAX_PLAYERS - 1)),
+        &[0, last, last - 1],
+        &[0, 0, 0],
+    );
+    of_fault(
+        b"a player too many",
+        &[1; MAX_PLAYERS + 1],
+        first(payoffs, MAX_PLAYERS + 1),
+    );
+}
+
+// The most cells, a strategy of one player less, and one more.
+fn cells(payoffs: &[f64]) {
+    of_game(
+        b"8 8 16 16",
         &[8, 8, 16, 16],
         first(payoffs, MAX_CELLS),
         &[3, 3, 2, 1, 0, 4, 2, 0],
         &[14, 0, 14, 6, 0, 0, 15, 7],
     );
+    of_game(
+        b"8 8 16 15",
+        &[8, 8, 16, 15],
+        first(payoffs, MAX_CELLS - MAX_CELLS / 16),
+        &[3, 3, 0],
+        &[15, 13, 6],
+    );
+    of_fault(b"8 8 16 17", &[8, 8, 16, 17], payoffs);
 }
 
 fn main() {
@@ -694,5 +742,7 @@ fn main() {
     table_faults();
     strike_faults();
     foreign(&payoffs);
-    limits(&payoffs);
+    strategies(&payoffs);
+    players(&payoffs);
+    cells(&payoffs);
 }

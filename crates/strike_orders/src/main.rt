@@ -3,7 +3,7 @@
 // one that nothing dominates. After each order this must hold:
 //     the survivors are those of the table's first order;
 //     the accepted strikes and the marks together are as many as the strategies of the table;
-//     `surviving_equilibria` returns and writes what `equilibria` does, bits of payoffs included;
+//     `surviving_equilibria` returns and writes what `equilibria` does, bits of payoffs included, and after each accepted strike too;
 //     `strikes` on the same list answers, and leaves, the same.
 // Only counts are printed, and the table's number where one of these does not hold.
 use cases::first;
@@ -28,7 +28,7 @@ const SPREAD: usize = 7;
 // The most cells of a table: 4 players with 3 strategies each.
 const CELLS: usize = 324;
 
-// The sweep of an order goes through as many strategies of each player: the most that one has.
+// How many strategies of each player the sweep of an order tries: the most that a player has.
 const WIDTH: usize = 6;
 
 // The most strikes of an order: 4 players have 24 places of the sweep, which are passed in 48 strikes, after the start and after each of
@@ -87,7 +87,7 @@ fn drawn_counts(players: usize, x: u64) -> [usize; PLAYERS] {
     ]
 }
 
-// The level of a player's choice: the strategies have the levels from 0 on, one more for the next strategy, and 0 after the highest.
+// The level of a player's choice: the strategies, from one on that the shift gives, have the levels 0, 1 and so on.
 fn level(counts: &[usize], profile: &[usize; MAX_PLAYERS], player: usize, shift: usize) -> f64 {
     if MAX_PLAYERS <= player {
         return 0.0;
@@ -118,8 +118,9 @@ fn with_sign(value: f64, negative: bool) -> f64 {
     value
 }
 
-// A player's payoff. Below kind 3 it is drawn among three values, and a level is worth 0, 1 or 2 more than the one below it. In kind 3 the
-// next player's level is to be twice the own: the highest levels are dominated, and then those below them.
+// A player's payoff. In kinds 0 to 2 it is drawn among three values, and a level is worth 0, 1 or 2 more than the one below it. In kind 3 it
+// is minus the distance of twice the own level from the next player's: the highest levels are dominated, and once they are struck, those
+// below them.
 fn drawn_payoff(
     counts: &[usize],
     profile: &[usize; MAX_PLAYERS],
@@ -247,6 +248,37 @@ fn told(r: UsizeResult) -> usize {
     }
 }
 
+// What both listings told, and whether they wrote the same.
+struct Listed {
+    number: usize,
+    same: bool,
+}
+
+fn listings(counts: &[usize], payoffs: &[f64], left: Survivors) -> Listed {
+    let mut choices = [FILLING; CELLS];
+    let mut utilities = [FLOAT_FILLING; CELLS];
+    let mut whole_choices = [FILLING; CELLS];
+    let mut whole_utilities = [FLOAT_FILLING; CELLS];
+    let n = told(survivors::surviving_equilibria(
+        counts,
+        payoffs,
+        left,
+        &mut choices,
+        &mut utilities,
+    ));
+    let whole = told(pure_nash::equilibria(
+        counts,
+        payoffs,
+        &mut whole_choices,
+        &mut whole_utilities,
+    ));
+    let same = same_numbers(&choices, &whole_choices) & same_floats(&utilities, &whole_utilities);
+    Listed {
+        number: whole,
+        same: same & (n == whole),
+    }
+}
+
 // Of a table and survivors: the strategies, the marks, and the players that have a struck strategy.
 struct Found {
     strategies: usize,
@@ -317,10 +349,15 @@ impl Tally {
         self
     }
 
-    // With one more order, whose listing had so many equilibria.
-    fn with_order(mut self, table: usize, equilibria: usize, good: bool) -> Tally {
+    // With so many equilibria more compared.
+    fn with_equilibria(mut self, n: usize) -> Tally {
+        self.equilibria = std::num::wrapping_add_usize(self.equilibria, n);
+        self
+    }
+
+    // With one more order.
+    fn with_order(mut self, table: usize, good: bool) -> Tally {
         self.orders = one_more(self.orders);
-        self.equilibria = std::num::wrapping_add_usize(self.equilibria, equilibria);
         if !good {
             self.differences = one_more(self.differences);
             text(b"table");
@@ -400,7 +437,8 @@ fn swept_places(players: usize) -> usize {
 }
 
 // How far an order has come: the last strike and what it answered, how many there were and how many were accepted, the survivors, the
-// generator's number, the place of the sweep, and how many strikes of the sweep were refused since the last accepted strike.
+// generator's number, the place of the sweep, how many strikes of the sweep were refused since the last accepted strike, and whether the
+// listings agreed.
 struct Progress {
     call: Call,
     code: u32,
@@ -411,6 +449,7 @@ struct Progress {
     x: u64,
     place: usize,
     quiet: usize,
+    same: bool,
     tally: Tally,
 }
 
@@ -460,6 +499,26 @@ fn struck(counts: &[usize], payoffs: &[f64], before: Progress) -> Progress {
     p
 }
 
+// The progress with the listings compared, where the strike was accepted.
+fn compared(counts: &[usize], payoffs: &[f64], before: Progress) -> Progress {
+    let mut p = before;
+    if p.code == 0 {
+        let left = p.left;
+        let listed = listings(counts, payoffs, left);
+        let tally = p.tally;
+        let counted = tally.with_equilibria(listed.number);
+        p.tally = counted;
+        p.same = p.same & listed.same;
+    }
+    p
+}
+
+// The progress after one strike more.
+fn with_strike(counts: &[usize], payoffs: &[f64], before: Progress, pace: usize) -> Progress {
+    let p = chosen(before, counts.len(), pace);
+    compared(counts, payoffs, struck(counts, payoffs, p))
+}
+
 // Puts a number at a place, if there is such a place.
 fn put(list: &mut [usize], at: usize, n: usize) {
     if at < list.len() {
@@ -507,7 +566,7 @@ fn run_order(
         if swept_places(counts.len()) <= p.quiet {
             return p;
         }
-        p = struck(counts, payoffs, chosen(p, counts.len(), pace));
+        p = with_strike(counts, payoffs, p, pace);
         record(p, i, players, strategies, answers, dominators);
         i += 1;
     }
@@ -563,7 +622,7 @@ fn pace(order: usize) -> usize {
 }
 
 // The generator's number and the counts so far; after an order also its survivors, how many strikes were accepted, and whether it came to its
-// end and `strikes` did the same.
+// end, the listings agreed and `strikes` did the same.
 struct Session {
     x: u64,
     tally: Tally,
@@ -586,6 +645,7 @@ fn started(counts: &[usize], payoffs: &[f64], x: u64, tally: Tally) -> Progress 
         x: x,
         place: below(x, swept_places(counts.len())),
         quiet: 0,
+        same: true,
         tally: tally,
     }
 }
@@ -621,38 +681,7 @@ fn one_order(counts: &[usize], payoffs: &[f64], start: Progress, pace: usize) ->
         tally: tally,
         left: left,
         accepted: p.accepted,
-        good: same & (swept_places(counts.len()) <= p.quiet),
-    }
-}
-
-// What both listings told, and whether they wrote the same.
-struct Compared {
-    number: usize,
-    same: bool,
-}
-
-fn listings(counts: &[usize], payoffs: &[f64], left: Survivors) -> Compared {
-    let mut choices = [FILLING; CELLS];
-    let mut utilities = [FLOAT_FILLING; CELLS];
-    let mut whole_choices = [FILLING; CELLS];
-    let mut whole_utilities = [FLOAT_FILLING; CELLS];
-    let n = told(survivors::surviving_equilibria(
-        counts,
-        payoffs,
-        left,
-        &mut choices,
-        &mut utilities,
-    ));
-    let whole = told(pure_nash::equilibria(
-        counts,
-        payoffs,
-        &mut whole_choices,
-        &mut whole_utilities,
-    ));
-    let same = same_numbers(&choices, &whole_choices) & same_floats(&utilities, &whole_utilities);
-    Compared {
-        number: whole,
-        same: same & (n == whole),
+        good: same & p.same & (swept_places(counts.len()) <= p.quiet),
     }
 }
 
@@ -661,10 +690,11 @@ fn judged(table: usize, counts: &[usize], payoffs: &[f64], base: Survivors, run:
     let left = run.left;
     let found = survey(counts, left);
     let listed = listings(counts, payoffs, left);
-    let counted = std::num::wrapping_add_usize(run.accepted, found.marks) == found.strategies;
-    let good = run.good & counted & listed.same & same_survivors(base, left);
+    let summed = std::num::wrapping_add_usize(run.accepted, found.marks) == found.strategies;
+    let good = run.good & summed & listed.same & same_survivors(base, left);
     let tally = run.tally;
-    tally.with_order(table, listed.number, good)
+    let counted = tally.with_equilibria(listed.number);
+    counted.with_order(table, good)
 }
 
 // Runs all orders of a table.

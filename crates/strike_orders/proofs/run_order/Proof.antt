@@ -34,11 +34,8 @@ same-length-4 c = search needs
 returns : tie.Need-returns Inv-loop μ-loop
 returns c = search needs
 
-chosen-requires : tie.Need-chosen-requires Inv-loop μ-loop
-chosen-requires c κs = search needs
-
-struck-requires : tie.Need-struck-requires Inv-loop μ-loop
-struck-requires c κs = search needs
+with-strike-requires : tie.Need-with-strike-requires Inv-loop μ-loop
+with-strike-requires c κs = search needs
 
 record-requires : tie.Need-record-requires Inv-loop μ-loop
 record-requires c κs = search needs
@@ -80,8 +77,7 @@ run-order-spec =
     same-length-3
     same-length-4
     returns
-    chosen-requires
-    struck-requires
+    with-strike-requires
     record-requires
     add-i
     loop-less
