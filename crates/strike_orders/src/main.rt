@@ -327,6 +327,7 @@ struct Tally {
     tables: usize,
     orders: usize,
     accepted: usize,
+    dominators: usize,
     no_player: usize,
     no_strategy: usize,
     not_dominated: usize,
@@ -337,8 +338,9 @@ struct Tally {
 }
 
 impl Tally {
-    // With one more strike of this answer: 0, or the refusal's number. Any other but 8, 14 and 15 is a difference.
-    fn with_answer(mut self, answer: u32) -> Tally {
+    // With one more strike of this answer: 0 with the dominator, or the refusal's number with 0. Any other but 8, 14 and 15 is a difference.
+    fn with_answer(mut self, answer: u32, dominator: usize) -> Tally {
+        self.dominators = std::num::wrapping_add_usize(self.dominators, dominator);
         match answer {
             0 => self.accepted = one_more(self.accepted),
             8 => self.no_player = one_more(self.no_player),
@@ -383,6 +385,7 @@ impl Tally {
         line(b"tables", self.tables);
         line(b"orders", self.orders);
         line(b"accepted", self.accepted);
+        line(b"their dominators, summed", self.dominators);
         line(b"refused 8,", self.no_player);
         line(b"refused 14,", self.no_strategy);
         line(b"refused 15,", self.not_dominated);
@@ -494,7 +497,7 @@ fn struck(counts: &[usize], payoffs: &[f64], before: Progress) -> Progress {
         }
     }
     let tally = p.tally;
-    let counted = tally.with_answer(p.code);
+    let counted = tally.with_answer(p.code, p.dominator);
     p.tally = counted;
     p
 }
@@ -731,6 +734,7 @@ fn main() {
         tables: 0,
         orders: 0,
         accepted: 0,
+        dominators: 0,
         no_player: 0,
         no_strategy: 0,
         not_dominated: 0,

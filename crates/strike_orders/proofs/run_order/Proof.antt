@@ -8,7 +8,11 @@ use Rattle.strike_orders.proofs.run_order.Statement.{statement}
 use Rattle.strike_orders.proofs.run_order.Tie as tie
 
 abbrev Inv-loop : tie.InvT-loop
-Inv-loop counts payoffs pace players₀ strategies₀ answers₀ dominators₀ p₀ i₀ players strategies answers dominators p i = (length players ≡ length players₀) × (length strategies ≡ length strategies₀) × (length answers ≡ length answers₀) × (length dominators ≡ length dominators₀)
+Inv-loop counts payoffs pace players₀ strategies₀ answers₀ dominators₀ p₀ i₀ players strategies answers dominators p i =
+    (length players ≡ length players₀)
+    × (length strategies ≡ length strategies₀)
+    × (length answers ≡ length answers₀)
+    × (length dominators ≡ length dominators₀)
 
 abbrev μ-loop : tie.MeasureT-loop
 μ-loop counts payoffs pace players₀ strategies₀ answers₀ dominators₀ p₀ i₀ players strategies answers dominators p i = 2 ^ 64 - i
