@@ -119,7 +119,7 @@ module _ (counts : List ℕ) (payoffs : List Float) where
 -- ---- what `strikes` answers, by its refusal
 
 module _ (counts : List ℕ) (payoffs : List Float) (cs : List Strategy) (a b : ℕ) where
-  -- refused, it tells that and leaves noSurvivors
+  -- refused, it tells that, beside P 0, counts 0 and no mark
   pub strikes-refused : (e : NormalFormError) → strikesRefusal counts payoffs cs a b ≡ some e
       → (refused (numberOf e) ≡ strikesAnswer counts payoffs cs a b) × (noSurvivors ≡ strikesLeave counts payoffs cs a b) × ([] ≡ strikesWritten counts payoffs cs a b)
   unfolding strikesAnswer strikesLeave strikesWritten

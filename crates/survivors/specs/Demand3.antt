@@ -1,7 +1,7 @@
 -- Demand 3 at the calls (document 01, "Strikes"): one claim about a table with none of refusals 1 to 7 and a list of strike calls from
 -- its fresh survivors, empty or not, accepted and refused mixed, naming any numbers. It speaks of the chain of calls by the definitions
 -- that the contracts of `fresh`, `strike`, `equilibria` and `surviving_equilibria` name, and the contract of `strikes`, which runs the
--- chain, has it. The table is one value through all the calls: noSurvivors writes it meanwhile. Assumes nothing.
+-- chain, has it. The table is one value through all the calls: nobody writes it meanwhile. Assumes nothing.
 use mathlib.Core.Path.{_≡_}
 use mathlib.Core.List.{List, map}
 use mathlib.Core.Option.{none}

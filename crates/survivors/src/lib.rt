@@ -1,7 +1,7 @@
 // Survivors and strikes: a strike takes a strategy out of a game because another surviving strategy of its player strictly dominates it
 // against all surviving choices of the others. Survivors are a record by value, and any record may be handed in.
 // Whatever list of strikes is made on a table, the equilibria listed over the survivors are the whole table's: demand 3, which the
-// contract of `strikes` has. The table is one value through all the calls of a list: noSurvivors writes it meanwhile.
+// contract of `strikes` has. The table is one value through all the calls of a list: nobody writes it meanwhile.
 use refusal::NormalFormError;
 use refusal::UnitResult;
 use refusal::UsizeOption;
