@@ -3,13 +3,16 @@
 use crate::candidate_cases;
 use crate::cases::{self, Random};
 use crate::document::{ACTIONS, CELLS, PLAYERS, STRATEGIES};
-use crate::library::{self, Claim, Lists};
+use crate::library::{self, Claim, Held, Lists, StrikeLists};
 use crate::rust;
+use crate::survivors::{self, Game, Left};
 use std::hint::black_box;
 use std::time::{Duration, Instant};
 
 /// The time for one row, after which no further run is begun.
 const TIME: Duration = Duration::from_millis(800);
+/// The same for an elimination, of which some take long.
+const ELIMINATION: Duration = Duration::from_millis(2_500);
 
 pub fn bench() {
     println!(
@@ -45,6 +48,7 @@ pub fn bench() {
         solvers("dominated", counts, &dominated);
     }
     candidates(&mut random);
+    eliminations(&shapes[1..], &payoffs);
 }
 
 fn finite(name: &str, payoffs: &[f64]) {
@@ -172,6 +176,186 @@ fn minimax(kind: &str, lists: [&[f64]; 3]) {
     );
 }
 
+/// Full eliminations: sweeps of strikes, players then strategies ascending, until one strikes nothing.
+fn eliminations(shapes: &[&[usize]], payoffs: &[f64]) {
+    println!(
+        "\n{:<28} {:>6} {:>8} {:>14} {:>14} {:>14} {:>14} {:>12} {:>7} {:>9}",
+        "elimination",
+        "calls",
+        "accepted",
+        "strikes, ns",
+        "one list, ns",
+        "Rust, ns",
+        "Rust / strikes",
+        "Rust / list",
+        "table",
+        "survivors"
+    );
+    let checks: Vec<Checks> = shapes
+        .iter()
+        .map(|counts| Checks::new(counts, payoffs))
+        .collect();
+    for (counts, checks) in std::iter::zip(shapes, &checks) {
+        let dominated = cases::own_choices(counts);
+        elimination("random", counts, &payoffs[..dominated.len()], checks);
+        elimination("constant", counts, &vec![1.0; dominated.len()], checks);
+        elimination("dominated", counts, &dominated, checks);
+        elimination("chain", counts, &cases::chain(counts), checks);
+    }
+    println!(
+        "\n{:<28} {:>14} {:>14} {:>14}",
+        "what each strike checks", "table, ns", "taken over, ns", "foreign, ns"
+    );
+    for (counts, checks) in std::iter::zip(shapes, &checks) {
+        let Checks {
+            table,
+            taken,
+            foreign,
+        } = checks;
+        println!(
+            "{:<28} {table:>14.1} {taken:>14.1} {foreign:>14.1}",
+            shape(counts)
+        );
+    }
+}
+
+/// What a strike spends before it looks at its strategy, in nanoseconds: on the table, on taking over the survivors'
+/// bytes, and on whether they are foreign.
+struct Checks {
+    table: f64,
+    taken: f64,
+    foreign: f64,
+}
+
+impl Checks {
+    /// The table's is that of `payoff_matrix_new`; a strike refused by 16 for another P takes the survivors over
+    /// besides, and one refused by 8 goes through all their marks too.
+    fn new(counts: &[usize], payoffs: &[f64]) -> Self {
+        let payoffs = &payoffs[..counts.len() * counts.iter().product::<usize>()];
+        let input = || (black_box(counts), black_box(payoffs));
+        let fresh = survivors::record(counts, &survivors::all(counts));
+        let mut other = fresh.clone();
+        other.players += 1;
+        let [mut fresh, mut other] = [Held::of(&fresh), Held::of(&other)];
+        let refused = |held: &mut Held, status: u32| {
+            let (counts, payoffs) = input();
+            assert_eq!(
+                library::strike_on(counts, payoffs, held, usize::MAX, 0),
+                status
+            );
+        };
+        let mut table = || {
+            let (counts, payoffs) = input();
+            library::payoff_matrix_new(counts, payoffs)
+        };
+        let timed: [Timed; 3] = [
+            &mut |calls| time(&mut table, calls),
+            &mut |calls| time(&mut || refused(&mut other, 16), calls),
+            &mut |calls| time(&mut || refused(&mut fresh, 8), calls),
+        ];
+        let [table, another, player] = least(timed, TIME);
+        Self {
+            table,
+            taken: another - table,
+            foreign: player - another,
+        }
+    }
+}
+
+/// One elimination by single strikes, by one list of the same strikes, and by the Rust; and what of the first goes to
+/// checks, of the table and of the survivors.
+fn elimination(kind: &str, counts: &[usize], payoffs: &[f64], checks: &Checks) {
+    let input = || (black_box(counts), black_box(payoffs));
+    let mut calls = [Vec::new(), Vec::new()];
+    let (held, accepted) = by_strikes(counts, payoffs, |player, strategy| {
+        calls[0].push(player);
+        calls[1].push(strategy);
+    });
+    let named = [&calls[0][..], &calls[1][..]];
+    let number = named[0].len();
+    let mut lists = StrikeLists::fresh([number; 2]);
+    library::strikes_into(counts, payoffs, named, &mut lists);
+    let left = survivors::record(counts, &by_rust(counts, payoffs));
+    assert!(
+        held.survivors() == left && lists.survivors() == left,
+        "eliminations end in different survivors"
+    );
+    let mut strikes = || {
+        let (counts, payoffs) = input();
+        by_strikes(counts, payoffs, |_, _| ())
+    };
+    let mut list = || {
+        let (counts, payoffs) = input();
+        library::strikes_into(counts, payoffs, black_box(named), &mut lists)
+    };
+    let mut rust = || {
+        let (counts, payoffs) = input();
+        by_rust(counts, payoffs)
+    };
+    let timed: [Timed; 3] = [
+        &mut |calls| time(&mut strikes, calls),
+        &mut |calls| time(&mut list, calls),
+        &mut |calls| time(&mut rust, calls),
+    ];
+    let [strikes, list, rust] = least(timed, ELIMINATION);
+    let share = |check: f64| 100.0 * check * number as f64 / strikes;
+    println!(
+        "{:<28} {number:>6} {accepted:>8} {strikes:>14.0} {list:>14.0} {rust:>14.0} \
+         {:>14.2} {:>12.2} {:>6.0}% {:>8.0}%",
+        format!("{}, {kind}", shape(counts)),
+        rust / strikes,
+        rust / list,
+        share(checks.table),
+        share(checks.taken + checks.foreign)
+    );
+}
+
+/// The survivors after an elimination by single strikes, and how many were accepted; each strike is told first.
+fn by_strikes(
+    counts: &[usize],
+    payoffs: &[f64],
+    mut tell: impl FnMut(usize, usize),
+) -> (Held, usize) {
+    let mut held = Held::fresh();
+    library::fresh_into(counts, payoffs, &mut held);
+    let mut accepted = 0;
+    loop {
+        let before = accepted;
+        for (player, count) in counts.iter().enumerate() {
+            for strategy in 0..*count {
+                tell(player, strategy);
+                if library::strike_on(counts, payoffs, &mut held, player, strategy) == 0 {
+                    accepted += 1;
+                }
+            }
+        }
+        if accepted == before {
+            return (held, accepted);
+        }
+    }
+}
+
+/// What the Rust leaves: its list of every player, then the table of what no list names, until none names anything.
+fn by_rust(counts: &[usize], payoffs: &[f64]) -> Left {
+    let game = Game { counts, payoffs };
+    let mut left = survivors::all(counts);
+    let mut matrix = rust::table(counts, payoffs).unwrap();
+    loop {
+        let mut struck = false;
+        for (player, own) in left.iter_mut().enumerate() {
+            for entry in rust::dominated(&matrix, player).unwrap().iter().rev() {
+                own.remove(entry.strategy);
+                struck = true;
+            }
+        }
+        if !struck {
+            return left;
+        }
+        let (counts, payoffs) = game.reduced(&left);
+        matrix = rust::table(&counts, &payoffs).unwrap();
+    }
+}
+
 fn row<A, B>(name: &str, library: impl FnMut() -> A, rust: impl FnMut() -> B) {
     let (library, rust) = best(library, rust);
     println!(
@@ -180,24 +364,37 @@ fn row<A, B>(name: &str, library: impl FnMut() -> A, rust: impl FnMut() -> B) {
     );
 }
 
-/// The least time of one call of each, in nanoseconds, over runs of some 20 microseconds or more.
+/// The least time of one call of each, in nanoseconds.
 fn best<A, B>(mut library: impl FnMut() -> A, mut rust: impl FnMut() -> B) -> (f64, f64) {
-    let calls = (calls(&mut library), calls(&mut rust));
-    let mut least = (f64::INFINITY, f64::INFINITY);
+    let timed: [Timed; 2] = [&mut |calls| time(&mut library, calls), &mut |calls| {
+        time(&mut rust, calls)
+    }];
+    let [library, rust] = least(timed, TIME);
+    (library, rust)
+}
+
+/// The time of one of so many calls.
+type Timed<'a> = &'a mut dyn FnMut(u32) -> f64;
+
+/// The least time of each, over runs of some 20 microseconds or more, taken in turns.
+fn least<const N: usize>(mut timed: [Timed; N], limit: Duration) -> [f64; N] {
+    let calls = timed.each_mut().map(|timed| calls(timed));
+    let mut least = [f64::INFINITY; N];
     let start = Instant::now();
     for _ in 0..1_000 {
-        least.0 = least.0.min(time(&mut library, calls.0));
-        least.1 = least.1.min(time(&mut rust, calls.1));
-        if start.elapsed() > TIME {
+        for place in 0..N {
+            least[place] = least[place].min(timed[place](calls[place]));
+        }
+        if start.elapsed() > limit {
             break;
         }
     }
     least
 }
 
-fn calls<A>(call: &mut impl FnMut() -> A) -> u32 {
+fn calls(timed: Timed) -> u32 {
     let mut calls = 1;
-    while time(call, calls) * f64::from(calls) < 20_000.0 {
+    while timed(calls) * f64::from(calls) < 20_000.0 {
         calls *= 2;
     }
     calls

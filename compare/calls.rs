@@ -7,13 +7,16 @@ use crate::library::{self, Answer, Bits};
 use crate::rust::{self, Judged};
 use crate::solvers;
 use crate::steps;
+use crate::strikes::{self, Strikes};
 use crate::tally::{floats, numbers, Judge, Tally};
+
+/// What every call with a table is refused by outside the domain, and with both 6 and 7; what one with outputs is.
+const OUTSIDE: (Judge, &[u32]) = (Judge::Outside, &[2, 3, 4, 5]);
+const BOTH: (Judge, &[u32]) = (Judge::SixAndSeven, &[6]);
+const SHORT: (Judge, &[u32]) = (Judge::TooShort, &[13]);
 
 /// Compares every call and prints a line for each.
 pub fn compare() {
-    let outside: (Judge, &[u32]) = (Judge::Outside, &[2, 3, 4, 5]);
-    let both: (Judge, &[u32]) = (Judge::SixAndSeven, &[6]);
-    let short: (Judge, &[u32]) = (Judge::TooShort, &[13]);
     let (mut with_rust, mut with_document) = (0, 0);
     let mut report = |tally: Tally, rust: &[u32], others: &[(Judge, &[u32])]| {
         tally.report(rust, others);
@@ -23,26 +26,27 @@ pub fn compare() {
     };
     report(utilities(), &[0, 7], &[]);
     report(finite(), &[0], &[]);
-    report(spaces(), &[0, 1, 3], &[outside]);
-    report(matrices(), &[0, 1, 3, 6, 7], &[outside, both]);
+    report(spaces(), &[0, 1, 3], &[OUTSIDE]);
+    report(matrices(), &[0, 1, 3, 6, 7], &[OUTSIDE, BOTH]);
     let calls = calls();
-    let table = [outside, both];
+    let table = [OUTSIDE, BOTH];
     report(calls.payoff, &[0, 1, 3, 6, 7, 8, 11, 12], &table);
     report(calls.offset, &[0, 1, 3, 6, 7, 11, 12], &table);
     report(calls.profile_payoffs, &[0, 1, 3, 6, 7, 11, 12], &table);
     report(steps::steps(), &[0], &[(Judge::Outside, &[0])]);
     let solvers = solvers::solvers();
-    let lists = [outside, both, short];
+    let lists = [OUTSIDE, BOTH, SHORT];
     report(solvers.responses, &[0, 1, 3, 6, 7, 8, 9, 10], &lists);
     let panics: (Judge, &[u32]) = (Judge::Panics, &[11, 12]);
     report(
         solvers.equilibrium,
         &[0, 1, 3, 6, 7],
-        &[outside, both, panics],
+        &[OUTSIDE, BOTH, panics],
     );
     report(solvers.count, &[0, 1, 3, 6, 7], &table);
     report(solvers.equilibria, &[0, 1, 3, 6, 7], &lists);
     report(solvers.dominated, &[0, 1, 3, 6, 7, 8], &lists);
+    strike_calls(&mut report);
     let candidates = candidates::candidates();
     let classes =
         |grounds: &[Ground]| -> Vec<u32> { grounds.iter().map(|ground| *ground as u32).collect() };
@@ -54,6 +58,27 @@ pub fn compare() {
     report(candidates.verdict, &[], &[(Judge::Unasked, &verdict)]);
     report(candidates.minimax, &classes(&Candidates::MINIMAX), &others);
     println!("compare: {with_rust} cases with the Rust and {with_document} with document 01 alone, 0 differences");
+}
+
+/// The calls on survivors.
+fn strike_calls(report: &mut impl FnMut(Tally, &[u32], &[(Judge, &[u32])])) {
+    let strikes = strikes::strikes();
+    strikes.report_answers();
+    report(strikes.fresh, &[0, 1, 3, 6, 7], &[OUTSIDE, BOTH]);
+    let refused = [&Strikes::GONE[..], &Strikes::FOREIGN].concat();
+    let unasked: (Judge, &[u32]) = (Judge::Unasked, &refused);
+    report(
+        strikes.strike,
+        &[0, 1, 3, 6, 7, 8, 15],
+        &[OUTSIDE, BOTH, unasked],
+    );
+    let unasked: (Judge, &[u32]) = (Judge::Unasked, &Strikes::FOREIGN);
+    report(
+        strikes.surviving,
+        &[0, 1, 3, 6, 7],
+        &[OUTSIDE, BOTH, SHORT, unasked],
+    );
+    report(strikes.strikes, &[0, 1, 3, 6, 7], &[OUTSIDE, BOTH, SHORT]);
 }
 
 fn utilities() -> Tally {

@@ -5,8 +5,7 @@ use crate::cases::Random;
 use crate::document::{self, Ground, ACTIONS};
 use crate::library::{self, Answer, Bits, Claim};
 use crate::rust;
-use crate::tally::{floats, numbers, Judge, Tally};
-use std::fmt::Debug;
+use crate::tally::{agreed, floats, numbers, Judge, Tally};
 
 /// The cases that each ground of an answer has at least.
 const LEAST: usize = 4_000;
@@ -93,15 +92,6 @@ impl Candidate {
 
 fn claim_of(claim: Claim) -> String {
     floats("claim", &[claim.value, claim.tolerance])
-}
-
-/// In the domain both judges answer the same.
-fn agreed<T: Debug + PartialEq>(rust: T, document: T, input: impl FnOnce() -> String) {
-    if rust != document {
-        print!("compare: the Rust and document 01 differ\n{}", input());
-        println!("  the Rust: {rust:?}\n  document 01: {document:?}");
-        std::process::exit(1);
-    }
 }
 
 pub struct Candidates {

@@ -289,6 +289,90 @@ pub fn own_choices(counts: &[usize]) -> Vec<f64> {
         .collect()
 }
 
+/// The table whose strategies become dominated one after the other: a player's strategy s is a best response until the
+/// next player's s is struck, and the last player's until the first player's s - 1 is; then the strategy after it
+/// dominates it.
+pub fn chain(counts: &[usize]) -> Vec<f64> {
+    let payoff = |profile: &[usize], player: usize| {
+        let reach = match profile.get(player + 1) {
+            Some(next) => *next,
+            None => profile[0] + 1,
+        };
+        if profile[player] <= reach {
+            profile[player] as f64
+        } else {
+            -1.0
+        }
+    };
+    let players = 0..counts.len();
+    profiles(counts)
+        .flat_map(|profile| players.clone().map(move |player| payoff(&profile, player)))
+        .collect()
+}
+
+/// Every way to give some cells of a shape a value of one of the classes; the other cells are random.
+pub struct Filling {
+    pub counts: Vec<usize>,
+    cells: Vec<usize>,
+    classes: Vec<Vec<f64>>,
+}
+
+impl Filling {
+    /// How many ways there are.
+    pub fn number(&self) -> usize {
+        self.classes.len().pow(self.cells.len() as u32)
+    }
+
+    pub fn fill(&self, random: &mut Random, payoffs: &mut Vec<f64>, number: usize) {
+        payoffs.resize(document::cells(&self.counts) as usize, 0.0);
+        payoffs.fill_with(|| random.pick(&VALUES));
+        let mut rest = number;
+        for cell in &self.cells {
+            payoffs[*cell] = random.pick(&self.classes[rest % self.classes.len()]);
+            rest /= self.classes.len();
+        }
+    }
+}
+
+/// Every table of every shape of at most so many cells over four values.
+pub fn small_fillings(cells: usize) -> Vec<Filling> {
+    let classes = VALUES.map(|value| vec![value]).to_vec();
+    small_shapes(cells)
+        .into_iter()
+        .map(|counts| whole_filling(&counts, &classes))
+        .collect()
+}
+
+/// Every 2×3 and 3×2 table over three values, and every 3×3 table over two, a zero being of either sign. Every 3×3 and
+/// 2×2×2 table over four values as far as one player's payoffs go, on which alone its best responses and dominated
+/// strategies depend; the others' are random.
+pub fn larger_fillings() -> Vec<Filling> {
+    let zeros = vec![-0.0, 0.0];
+    let three = [vec![-1.0], zeros.clone(), vec![1.0]];
+    let mut fillings = vec![
+        whole_filling(&[2, 3], &three),
+        whole_filling(&[3, 2], &three),
+        whole_filling(&[3, 3], &[zeros, vec![1.0]]),
+    ];
+    for counts in [&[3, 3][..], &[2, 2, 2]] {
+        for player in 0..counts.len() {
+            let classes = VALUES.map(|value| vec![value]);
+            let mut filling = whole_filling(counts, &classes);
+            filling.cells.retain(|cell| cell % counts.len() == player);
+            fillings.push(filling);
+        }
+    }
+    fillings
+}
+
+fn whole_filling(counts: &[usize], classes: &[Vec<f64>]) -> Filling {
+    Filling {
+        counts: counts.to_vec(),
+        cells: (0..document::cells(counts) as usize).collect(),
+        classes: classes.to_vec(),
+    }
+}
+
 /// The list without what stands at one place.
 pub fn without(list: &[usize], place: usize) -> Vec<usize> {
     let mut rest = list.to_vec();

@@ -22,6 +22,9 @@ pub const OPPONENT: u32 = 10;
 pub const CHOICE_COUNT: u32 = 11;
 pub const CHOICE: u32 = 12;
 pub const SHORT: u32 = 13;
+pub const GONE: u32 = 14;
+pub const NOT_DOMINATED: u32 = 15;
+pub const FOREIGN: u32 = 16;
 
 /// Profiles × P, or the largest number where that is larger.
 pub fn cells(counts: &[usize]) -> u128 {

@@ -1,7 +1,7 @@
 //! The library's calls behind safe functions. Every output is filled with a pattern first and stands between two
 //! guards, so that a refused call that wrote, or a call that wrote past an output, is seen.
 
-use crate::document::PLAYERS;
+use crate::document::{PLAYERS, STRATEGIES};
 use std::fmt;
 use std::ops::Range;
 use std::sync::atomic::{AtomicUsize, Ordering::Relaxed};
@@ -112,6 +112,59 @@ extern "C" {
         dominators_len: usize,
         number: *mut usize,
     ) -> u32;
+    fn sigvanyor_fresh(
+        counts: *const usize,
+        counts_len: usize,
+        payoffs: *const f64,
+        payoffs_len: usize,
+        survivors_players: *mut usize,
+        survivors_counts: *mut usize,
+        survivors_marks: *mut u8,
+    ) -> u32;
+    fn sigvanyor_strike(
+        counts: *const usize,
+        counts_len: usize,
+        payoffs: *const f64,
+        payoffs_len: usize,
+        survivors_players: usize,
+        survivors_counts: *const usize,
+        survivors_marks: *mut u8,
+        player: usize,
+        strategy: usize,
+        dominator: *mut usize,
+    ) -> u32;
+    fn sigvanyor_surviving_equilibria(
+        counts: *const usize,
+        counts_len: usize,
+        payoffs: *const f64,
+        payoffs_len: usize,
+        survivors_players: usize,
+        survivors_counts: *const usize,
+        survivors_marks: *const u8,
+        choices: *mut usize,
+        choices_len: usize,
+        utilities: *mut f64,
+        utilities_len: usize,
+        number: *mut usize,
+    ) -> u32;
+    fn sigvanyor_strikes(
+        counts: *const usize,
+        counts_len: usize,
+        payoffs: *const f64,
+        payoffs_len: usize,
+        players: *const usize,
+        players_len: usize,
+        strategies: *const usize,
+        strategies_len: usize,
+        answers: *mut u32,
+        answers_len: usize,
+        dominators: *mut usize,
+        dominators_len: usize,
+        number: *mut usize,
+        survivors_players: *mut usize,
+        survivors_counts: *mut usize,
+        survivors_marks: *mut u8,
+    ) -> u32;
     fn sigvanyor_verify_correlated_equilibrium_incentives(
         m: usize,
         n: usize,
@@ -193,6 +246,50 @@ pub struct Part {
     pub payoffs: Vec<Bits>,
 }
 
+/// The marks of survivors.
+pub const MARKS: usize = PLAYERS * STRATEGIES;
+
+/// Survivors: P, the counts with 0 from P on, and a byte for each mark; one that is not 0 is a mark.
+#[derive(Clone, PartialEq)]
+pub struct Survivors {
+    pub players: usize,
+    pub counts: [usize; PLAYERS],
+    pub marks: [u8; MARKS],
+}
+
+impl Survivors {
+    /// The strategies of a player that have a mark, ascending.
+    pub fn marked(&self, player: usize) -> Vec<usize> {
+        let marks = &self.marks[player * STRATEGIES..][..STRATEGIES];
+        (0..STRATEGIES)
+            .filter(|strategy| marks[*strategy] != 0)
+            .collect()
+    }
+}
+
+impl fmt::Debug for Survivors {
+    /// Of each player with marks its number, and each mark's strategy and byte.
+    fn fmt(&self, formatter: &mut fmt::Formatter<'_>) -> fmt::Result {
+        write!(formatter, "{} of {:?}", self.players, self.counts)?;
+        for player in 0..PLAYERS {
+            let marks = self.marked(player).into_iter();
+            let bytes =
+                marks.map(|strategy| (strategy, self.marks[player * STRATEGIES + strategy]));
+            write!(formatter, " {player}: {:?}", bytes.collect::<Vec<_>>())?;
+        }
+        Ok(())
+    }
+}
+
+/// What a list of strikes is told as: how many were accepted, the answer and the dominator of each, and what is left.
+#[derive(Debug, Clone, PartialEq)]
+pub struct Struck {
+    pub number: usize,
+    pub answers: Vec<u32>,
+    pub dominators: Vec<usize>,
+    pub survivors: Survivors,
+}
+
 /// What a list is told as: the number of its entries, and what stands of them in the first and in the second output.
 #[derive(Debug, Clone, PartialEq)]
 pub struct Listing<T> {
@@ -264,18 +361,35 @@ impl<const N: usize> Output<N> {
     }
 }
 
+/// What a slice has for an element, with a pattern cut to its length.
+trait Word: Copy + PartialEq {
+    fn of(pattern: u64) -> Self;
+}
+
+impl Word for u64 {
+    fn of(pattern: u64) -> Self {
+        pattern
+    }
+}
+
+impl Word for u32 {
+    fn of(pattern: u64) -> Self {
+        (pattern >> 32) as u32
+    }
+}
+
 /// As many words as a caller likes between two guards of a profile's length, the patterns in turn.
-struct Slice {
-    words: Vec<u64>,
+struct Slice<W = u64> {
+    words: Vec<W>,
     turn: usize,
 }
 
-impl Slice {
+impl<W: Word> Slice<W> {
     const GUARD: usize = PLAYERS;
 
     fn fresh(length: usize) -> Self {
         let turn = turn() % PATTERNS.len();
-        let patterns = PATTERNS.iter().copied().cycle().skip(turn);
+        let patterns = PATTERNS.iter().copied().cycle().skip(turn).map(W::of);
         Self {
             words: patterns.take(Self::GUARD + length + Self::GUARD).collect(),
             turn,
@@ -291,7 +405,7 @@ impl Slice {
         self.words.len() - 2 * Self::GUARD
     }
 
-    fn first(&self, length: usize) -> &[u64] {
+    fn first(&self, length: usize) -> &[W] {
         &self.words[Self::GUARD..][..length]
     }
 
@@ -310,7 +424,7 @@ impl Slice {
         self.words[places]
             .iter()
             .zip(patterns)
-            .all(|(word, pattern)| word == pattern)
+            .all(|(word, pattern)| *word == W::of(*pattern))
     }
 }
 
@@ -368,6 +482,57 @@ impl Lists {
                     .collect(),
             },
         )
+    }
+}
+
+/// Survivors as a call is lent them.
+pub struct Held {
+    players: Output<1>,
+    counts: Output<PLAYERS>,
+    marks: Output<{ MARKS / 8 }>,
+}
+
+impl Held {
+    pub fn fresh() -> Self {
+        Self {
+            players: Output::fresh(),
+            counts: Output::fresh(),
+            marks: Output::fresh(),
+        }
+    }
+
+    pub fn of(survivors: &Survivors) -> Self {
+        let mut held = Self::fresh();
+        held.players.words = [survivors.players as u64];
+        held.counts.words = survivors.counts.map(|count| count as u64);
+        for (word, marks) in held.marks.words.iter_mut().zip(survivors.marks.chunks(8)) {
+            *word = u64::from_ne_bytes(marks.try_into().unwrap());
+        }
+        held
+    }
+
+    pub fn survivors(&self) -> Survivors {
+        let mut marks = [0; MARKS];
+        for (marks, word) in marks.chunks_mut(8).zip(self.marks.words) {
+            marks.copy_from_slice(&word.to_ne_bytes());
+        }
+        Survivors {
+            players: self.players(),
+            counts: self.counts.numbers(),
+            marks,
+        }
+    }
+
+    fn players(&self) -> usize {
+        self.players.numbers()[0]
+    }
+
+    fn guarded(&self) -> bool {
+        self.players.guarded() && self.counts.guarded() && self.marks.guarded()
+    }
+
+    fn untouched(&self) -> bool {
+        self.players.untouched() && self.counts.untouched() && self.marks.untouched()
     }
 }
 
@@ -584,6 +749,188 @@ pub fn strictly_dominated_strategies(
         player;
         lists
     )
+}
+
+/// The table's fresh survivors into those that are held.
+pub fn fresh_into(counts: &[usize], payoffs: &[f64], held: &mut Held) -> u32 {
+    call!(
+        sigvanyor_fresh,
+        [counts, payoffs],
+        held.players.place(),
+        held.counts.place(),
+        held.marks.place()
+    )
+}
+
+pub fn fresh(counts: &[usize], payoffs: &[f64]) -> Answer<Survivors> {
+    let mut held = Held::fresh();
+    let status = fresh_into(counts, payoffs, &mut held);
+    answer(status, held.guarded(), held.untouched(), || {
+        held.survivors()
+    })
+}
+
+/// A strike on survivors that are held, whose dominator is dropped.
+pub fn strike_on(
+    counts: &[usize],
+    payoffs: &[f64],
+    held: &mut Held,
+    player: usize,
+    strategy: usize,
+) -> u32 {
+    strike_into(
+        counts,
+        payoffs,
+        held,
+        player,
+        strategy,
+        &mut Output::fresh(),
+    )
+}
+
+fn strike_into(
+    counts: &[usize],
+    payoffs: &[f64],
+    held: &mut Held,
+    player: usize,
+    strategy: usize,
+    dominator: &mut Output<1>,
+) -> u32 {
+    call!(
+        sigvanyor_strike,
+        [counts, payoffs],
+        held.players(),
+        held.counts.place(),
+        held.marks.place(),
+        player,
+        strategy,
+        dominator.place()
+    )
+}
+
+/// The dominator, and the survivors as the call left them.
+pub fn strike(
+    counts: &[usize],
+    payoffs: &[f64],
+    survivors: &Survivors,
+    player: usize,
+    strategy: usize,
+) -> Answer<(usize, Survivors)> {
+    let mut held = Held::of(survivors);
+    let mut dominator = Output::fresh();
+    let status = strike_into(counts, payoffs, &mut held, player, strategy, &mut dominator);
+    let after = held.survivors();
+    answer(
+        status,
+        held.guarded() && dominator.guarded(),
+        dominator.untouched() && after == *survivors,
+        || (dominator.numbers()[0], after),
+    )
+}
+
+/// The survivors are only read.
+pub fn surviving_equilibria(
+    counts: &[usize],
+    payoffs: &[f64],
+    survivors: &Survivors,
+    lists: &mut Lists,
+) -> Answer<Listing<Bits>> {
+    let mut held = Held::of(survivors);
+    let status = call!(
+        sigvanyor_surviving_equilibria,
+        [counts, payoffs],
+        held.players(),
+        held.counts.place(),
+        held.marks.place();
+        lists
+    );
+    if !held.guarded() || held.survivors() != *survivors {
+        return Answer::Broken("wrote the survivors that it reads");
+    }
+    lists.answer(status, counts.len(), Bits)
+}
+
+/// The outputs of a list of strikes: the answers and the dominators of any lengths, and the survivors.
+pub struct StrikeLists {
+    answers: Slice<u32>,
+    dominators: Slice,
+    number: Output<1>,
+    held: Held,
+}
+
+impl StrikeLists {
+    pub fn fresh(lengths: [usize; 2]) -> Self {
+        Self {
+            answers: Slice::fresh(lengths[0]),
+            dominators: Slice::fresh(lengths[1]),
+            number: Output::fresh(),
+            held: Held::fresh(),
+        }
+    }
+
+    pub fn survivors(&self) -> Survivors {
+        self.held.survivors()
+    }
+
+    /// The answer of a call that wrote here, of so many strikes.
+    fn answer(&self, status: u32, strikes: usize) -> Answer<Struck> {
+        let written = if status == 0 { strikes } else { 0 };
+        if written > self.answers.len().min(self.dominators.len()) {
+            return Answer::Broken("told more than the outputs hold");
+        }
+        let outputs = [
+            self.answers.guarded() && self.dominators.guarded(),
+            self.number.guarded() && self.held.guarded(),
+        ];
+        let rest = self.answers.untouched_past(written) && self.dominators.untouched_past(written);
+        if status == 0 && !rest {
+            return Answer::Broken("touched an element past those written");
+        }
+        let dominators = self.dominators.first(written).iter();
+        answer(
+            status,
+            outputs == [true; 2],
+            rest && self.number.untouched() && self.held.untouched(),
+            || Struck {
+                number: self.number.numbers()[0],
+                answers: self.answers.first(written).to_vec(),
+                dominators: dominators.map(|word| *word as usize).collect(),
+                survivors: self.survivors(),
+            },
+        )
+    }
+}
+
+pub fn strikes_into(
+    counts: &[usize],
+    payoffs: &[f64],
+    [players, strategies]: [&[usize]; 2],
+    lists: &mut StrikeLists,
+) -> u32 {
+    call!(
+        sigvanyor_strikes,
+        [counts, payoffs, players, strategies],
+        lists.answers.place(),
+        lists.answers.len(),
+        lists.dominators.place(),
+        lists.dominators.len(),
+        lists.number.place(),
+        lists.held.players.place(),
+        lists.held.counts.place(),
+        lists.held.marks.place()
+    )
+}
+
+/// A list of strikes by their players and their strategies, into outputs of these lengths.
+pub fn strikes(
+    counts: &[usize],
+    payoffs: &[f64],
+    named: [&[usize]; 2],
+    lengths: [usize; 2],
+) -> Answer<Struck> {
+    let mut lists = StrikeLists::fresh(lengths);
+    let status = strikes_into(counts, payoffs, named, &mut lists);
+    lists.answer(status, named[0].len().min(named[1].len()))
 }
 
 pub fn verify_correlated_equilibrium_incentives(

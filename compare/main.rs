@@ -15,6 +15,9 @@ mod record;
 mod rust;
 mod solvers;
 mod steps;
+mod strike_cases;
+mod strikes;
+mod survivors;
 mod tally;
 
 /// The reference as it stands, and below it the ways to its private functions.

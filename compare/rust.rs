@@ -55,6 +55,23 @@ pub fn equilibria(matrix: &PayoffMatrix) -> Vec<PureNashEquilibrium> {
     PureNashSolver::equilibria(matrix)
 }
 
+/// The same as a list is told.
+pub fn listing(matrix: &PayoffMatrix) -> Listing<Bits> {
+    let equilibria = equilibria(matrix);
+    Listing {
+        number: equilibria.len(),
+        first: equilibria
+            .iter()
+            .flat_map(|equilibrium| equilibrium.profile.iter().copied())
+            .collect(),
+        second: equilibria
+            .iter()
+            .flat_map(|equilibrium| &equilibrium.payoffs)
+            .map(|utility| Bits::of(utility.value()))
+            .collect(),
+    }
+}
+
 pub fn dominated(matrix: &PayoffMatrix, player: usize) -> Result<Vec<DominatedStrategy>, u32> {
     StrictDominanceSolver::strictly_dominated_strategies(matrix, player).map_err(number)
 }
@@ -161,19 +178,7 @@ impl<'a> Judged<'a> {
     }
 
     pub fn equilibria(&self) -> Result<Listing<Bits>, u32> {
-        let equilibria = equilibria(self.matrix()?);
-        Ok(Listing {
-            number: equilibria.len(),
-            first: equilibria
-                .iter()
-                .flat_map(|equilibrium| equilibrium.profile.iter().copied())
-                .collect(),
-            second: equilibria
-                .iter()
-                .flat_map(|equilibrium| &equilibrium.payoffs)
-                .map(|utility| Bits::of(utility.value()))
-                .collect(),
-        })
+        self.matrix().map(listing)
     }
 
     pub fn dominated(&self, player: usize) -> Result<Listing<usize>, u32> {
@@ -201,7 +206,7 @@ impl<'a> Judged<'a> {
         }
     }
 
-    fn matrix(&self) -> Result<&PayoffMatrix, u32> {
+    pub fn matrix(&self) -> Result<&PayoffMatrix, u32> {
         self.table.as_ref().map_err(|refusal| *refusal)
     }
 

@@ -1,6 +1,6 @@
 //! The comparison of best responses, equilibria and strict dominance.
 
-use crate::cases::{self, Random};
+use crate::cases::{self, Filling, Random};
 use crate::document::{self, CELLS, PLAYERS, STRATEGIES};
 use crate::library::{self, Answer, Bits, Listing, Lists};
 use crate::rust::{self, Judged};
@@ -103,13 +103,16 @@ impl Solvers {
     }
 }
 
-fn table(judged: &Judged) -> String {
+pub fn table(judged: &Judged) -> String {
     numbers("counts", judged.counts) + &floats("payoffs", judged.payoffs)
 }
 
 /// The lengths of a list's outputs. A list that is refused needs none, and the lengths are then around some.
 pub fn lengths<T>(listing: &Result<Listing<T>, u32>, room: Room) -> [usize; 2] {
-    let needed = listing.as_ref().map_or([3, 3], Listing::needed);
+    lengthened(listing.as_ref().map_or([3, 3], Listing::needed), room)
+}
+
+pub fn lengthened(needed: [usize; 2], room: Room) -> [usize; 2] {
     [0, 1].map(|output| needed[output].saturating_add_signed(room[output]))
 }
 
@@ -147,7 +150,12 @@ pub fn solvers() -> Solvers {
     for _ in 0..100_000 {
         junk(&mut solvers, &mut random);
     }
-    every_table(&mut solvers, &mut random);
+    for filling in cases::small_fillings(8)
+        .iter()
+        .chain(&cases::larger_fillings())
+    {
+        every_filling(&mut solvers, &mut random, filling);
+    }
     let every = [&ENOUGH[..], &SHORT].concat();
     for shape in cases::large_shapes() {
         for _ in 0..12 {
@@ -162,42 +170,9 @@ pub fn solvers() -> Solvers {
     solvers
 }
 
-/// Every table of every shape of at most 8 cells over four values. Every 2×3 and 3×2 table over three values, and every
-/// 3×3 table over two, a zero being of either sign. Every 3×3 and 2×2×2 table over four values as far as one player's
-/// payoffs go, on which alone its best responses and dominated strategies depend; the others' are random.
-fn every_table(solvers: &mut Solvers, random: &mut Random) {
-    let four = cases::VALUES.map(|value| vec![value]);
-    let zeros = vec![-0.0, 0.0];
-    let all = |counts: &[usize]| (0..document::cells(counts) as usize).collect::<Vec<_>>();
-    for counts in cases::small_shapes(8) {
-        every_filling(solvers, random, &counts, &all(&counts), &four);
-    }
-    let three = [vec![-1.0], zeros.clone(), vec![1.0]];
-    for counts in [[2, 3], [3, 2]] {
-        every_filling(solvers, random, &counts, &all(&counts), &three);
-    }
-    every_filling(solvers, random, &[3, 3], &all(&[3, 3]), &[zeros, vec![1.0]]);
-    for counts in [&[3, 3][..], &[2, 2, 2]] {
-        for player in 0..counts.len() {
-            let own: Vec<usize> = all(counts)
-                .into_iter()
-                .skip(player)
-                .step_by(counts.len())
-                .collect();
-            every_filling(solvers, random, counts, &own, &four);
-        }
-    }
-}
-
-/// Every way to give each of the cells a value of one of the classes, with every player, every choice of the others and
-/// every profile, and some to refuse.
-fn every_filling(
-    solvers: &mut Solvers,
-    random: &mut Random,
-    counts: &[usize],
-    cells: &[usize],
-    classes: &[Vec<f64>],
-) {
+/// Every table of a filling, with every player, every choice of the others and every profile, and some to refuse.
+fn every_filling(solvers: &mut Solvers, random: &mut Random, filling: &Filling) {
+    let counts = &filling.counts[..];
     let players = counts.len();
     let profiles: Vec<Vec<usize>> = cases::profiles(counts).collect();
     let others: Vec<(usize, Vec<usize>)> = (0..players)
@@ -207,14 +182,9 @@ fn every_filling(
             profiles.into_iter().map(move |profile| (player, profile))
         })
         .collect();
-    let mut payoffs: Vec<f64> = vec![0.0; document::cells(counts) as usize];
-    for number in 0..classes.len().pow(cells.len() as u32) {
-        payoffs.fill_with(|| random.pick(&cases::VALUES));
-        let mut rest = number;
-        for cell in cells {
-            payoffs[*cell] = random.pick(&classes[rest % classes.len()]);
-            rest /= classes.len();
-        }
+    let mut payoffs = Vec::new();
+    for number in 0..filling.number() {
+        filling.fill(random, &mut payoffs, number);
         let rooms = [random.pick(&ENOUGH), random.pick(&SHORT)];
         let judged = Judged::new(counts, &payoffs);
         for (player, opponents) in &others {
@@ -321,7 +291,7 @@ fn faulty(solvers: &mut Solvers, random: &mut Random, faults: u32) {
     solvers.dominated(&judged, player, &[room]);
 }
 
-fn faulty_counts(random: &mut Random, has: impl Fn(u32) -> bool) -> Vec<usize> {
+pub fn faulty_counts(random: &mut Random, has: impl Fn(u32) -> bool) -> Vec<usize> {
     if has(document::NO_PLAYERS) {
         return Vec::new();
     }
@@ -350,7 +320,11 @@ fn faulty_counts(random: &mut Random, has: impl Fn(u32) -> bool) -> Vec<usize> {
     counts
 }
 
-fn faulty_payoffs(random: &mut Random, has: impl Fn(u32) -> bool, counts: &[usize]) -> Vec<f64> {
+pub fn faulty_payoffs(
+    random: &mut Random,
+    has: impl Fn(u32) -> bool,
+    counts: &[usize],
+) -> Vec<f64> {
     let cells = match document::cells(counts) {
         cells if cells <= 2 * CELLS as u128 => cells as usize,
         _ => 64,

@@ -67,7 +67,8 @@ impl Tally {
         Self::of(name, &Ground::TITLES, least)
     }
 
-    fn of(name: &'static str, classes: &'static [&'static str], least: usize) -> Self {
+    /// By classes that are told; so many cases meet one.
+    pub fn of(name: &'static str, classes: &'static [&'static str], least: usize) -> Self {
         Self {
             name,
             classes,
@@ -149,6 +150,23 @@ impl Tally {
             .map(|(title, cases)| format!("{title} {cases}"))
             .collect();
         format!(" ({})", met.join(", "))
+    }
+}
+
+/// Ends the run where what must hold does not.
+pub fn sure(holds: bool, wrong: &str) {
+    if !holds {
+        println!("compare: {wrong}");
+        std::process::exit(1);
+    }
+}
+
+/// Where the Rust and document 01 both judge, they answer the same.
+pub fn agreed<T: Debug + PartialEq>(rust: T, document: T, input: impl FnOnce() -> String) {
+    if rust != document {
+        print!("compare: the Rust and document 01 differ\n{}", input());
+        println!("  the Rust: {rust:?}\n  document 01: {document:?}");
+        std::process::exit(1);
     }
 }
 
