@@ -146,7 +146,7 @@ module _ (v : Survivors) (c : Strategy) (full : Full v) (l : c .player < maxPlay
 
   pub without-full : Full (withoutMark v c)
   unfolding withoutMark
-  without-full = length-set (v .marks) (markPlace (c .player) (c .number)) false ∙ full
+  without-full = length-set (v .marks) _ _ ∙ full
 
   -- the marks afterwards
   new : Marks
