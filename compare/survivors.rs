@@ -3,6 +3,7 @@
 
 use crate::document::{self, PLAYERS, STRATEGIES};
 use crate::library::{Bits, Listing, Survivors, MARKS};
+use crate::tally::STATUSES;
 
 /// The strategies of each player that are left, ascending.
 pub type Left = Vec<Vec<usize>>;
@@ -18,21 +19,8 @@ pub const MARK_BEYOND: u32 = MARK_PAST + 1;
 pub const SEVERAL: u32 = MARK_BEYOND + 1;
 pub const STRUCK: u32 = SEVERAL + 1;
 
-pub const GROUNDS: [&str; STRUCK as usize + 1] = [
-    "accepted",
-    "refused by 1:",
-    "refused by 2:",
-    "refused by 3:",
-    "refused by 4:",
-    "refused by 5:",
-    "refused by 6:",
-    "refused by 7:",
-    "refused by 8:",
-    "refused by 9:",
-    "refused by 10:",
-    "refused by 11:",
-    "refused by 12:",
-    "refused by 13:",
+/// What the grounds after those of the statuses are called.
+const OTHERS: [&str; STRUCK as usize + 1 - STATUSES.len()] = [
     "refused by 14, not below its count:",
     "refused by 15:",
     "refused by 16, P alone:",
@@ -50,6 +38,22 @@ pub const GROUNDS: [&str; STRUCK as usize + 1] = [
     "refused by 16, several causes:",
     "refused by 14, struck:",
 ];
+
+pub const GROUNDS: [&str; STATUSES.len() + OTHERS.len()] = grounds();
+
+const fn grounds() -> [&'static str; STATUSES.len() + OTHERS.len()] {
+    let mut all = [""; STATUSES.len() + OTHERS.len()];
+    let mut i = 0;
+    while i < all.len() {
+        all[i] = if i < STATUSES.len() {
+            STATUSES[i]
+        } else {
+            OTHERS[i - STATUSES.len()]
+        };
+        i += 1;
+    }
+    all
+}
 
 /// The number of the refusal that has the ground.
 pub fn refusal(ground: u32) -> u32 {

@@ -5,7 +5,7 @@ use crate::library::Answer;
 use std::fmt::{Debug, Write};
 
 /// What a case of a status is counted under.
-const STATUSES: [&str; document::SHORT as usize + 1] = [
+pub const STATUSES: [&str; document::SHORT as usize + 1] = [
     "accepted",
     "refused by 1:",
     "refused by 2:",

@@ -20,14 +20,13 @@
  *   15  no survivor strictly dominates the strategy
  *   13  an output is shorter than the result needs
  * Values come through the pointers at the end of a call's parameters; a strike also changes the marks that it is given. A refused call
- * writes nothing. Where an output is a slice,
- * elements past those written keep their contents.
+ * writes nothing. Where an output is a slice, elements past those written keep their contents.
  *
  * Survivors are what is left of a table's strategies: P and the table's counts, 0 from place P on, and a byte for each mark,
  * SIGVANYOR_MAX_STRATEGIES to a player. Strategy s of player p survives where marks[p * SIGVANYOR_MAX_STRATEGIES + s] is not 0; 0 and 1
  * are written. Survivors are foreign to a table where P or one of the eight counts is not the table's, a player of the table has no
- * mark, or a mark stands at or past its player's count, 0 from P on. The table is one value through all strikes on it: nobody writes
- * it meanwhile.
+ * mark, or a mark stands at or past its player's count, which from P on is 0. The table is one value through all strikes on it: nobody
+ * writes it meanwhile.
  *
  * The candidate checks are for two players. Tables and weights have m rows, player 1's actions, and n columns, player 2's, 1 to
  * SIGVANYOR_MAX_ACTIONS each, and are flat by rows: row i and column j stand at i x n + j. What is malformed gets no status but the
