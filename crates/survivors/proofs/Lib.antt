@@ -5,4 +5,3 @@ pub mod Cases
 pub mod Chain
 pub mod Demand3
 pub mod Written
-pub mod Computed

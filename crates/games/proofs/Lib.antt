@@ -1,0 +1,2 @@
+-- Games computed.
+pub mod Strikes
