@@ -24,9 +24,9 @@ use Rattle.table.specs.Checks.{tableRefusal, profileRefusal}
 use Rattle.table.specs.Answers.{offsetAnswer}
 use Rattle.table.proofs.Checks.{table-law, profile-law}
 use Rattle.table.proofs.Offsets.{offset-below, nth-offset}
+use Rattle.equilibrium_search.proofs.Known.{known-none}
+use Rattle.equilibrium_search.proofs.Rows.{equilibrium-settled}
 use Rattle.pure_nash.specs.Answers.{isEquilibriumAnswer}
-use Rattle.pure_nash.proofs.Known.{known-none}
-use Rattle.pure_nash.proofs.Rows.{equilibrium-settled}
 use Rattle.pure_nash.proofs.Laws.{whole-equilibrium}
 use borrow.Author.Needs.{needs}
 use Rattle.pure_nash.proofs.is_equilibrium.Statement.{statement}

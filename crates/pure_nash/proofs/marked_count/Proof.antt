@@ -11,9 +11,11 @@ use Rattle.table.specs.Limits.{maxCells}
 use Rattle.table.specs.Table.{tableGame}
 use Rattle.table.specs.Marks.{marked}
 use Rattle.table.proofs.Walk.{shape-room}
-use Rattle.pure_nash.specs.Found.{Found, chosen}
-use Rattle.pure_nash.proofs.Known.{fewCells, known-none, few-profiles}
-use Rattle.pure_nash.proofs.Listing.{found-all, found-many}
+use Rattle.equilibrium_search.specs.Found.{Found}
+use Rattle.equilibrium_search.proofs.Known.{known-none}
+use Rattle.profile_listing.specs.Chosen.{chosen}
+use Rattle.profile_listing.proofs.Listing.{found-many}
+use Rattle.pure_nash.proofs.Listing.{fewCells, few-profiles, found-all}
 use borrow.Author.Needs.{needs}
 use Rattle.pure_nash.proofs.marked_count.Statement.{statement}
 use Rattle.pure_nash.proofs.marked_count.Tie as tie
@@ -52,7 +54,7 @@ count-found-requires c κs =
 returns : tie.Need-returns
 returns c =
     let s = c .before .before .before .before .before .before .before .before .before .before .before in
-    c .count-found .ensures ∙ counted s fewCells (c .before .before .before .before .find .last .1 .1 .1 .1 .1 .0) (c .before .before .found2 .given) (few (c .before .before .before .before .before .before .before)) (c .before .before .before .before .find .ensures)
+    c .count-found .ensures ∙ counted s fewCells (c .before .before .before .before .find .last .1 .1 .1 .1 .1 .0) (c .before .before .found2 .given) (few (c .before .before .before .before .before .before .before)) (c .before .before .before .before .find .ensures .1)
 
 slice-aggregate-find-3 : tie.Need-slice-aggregate-find-3
 slice-aggregate-find-3 c = search needs
@@ -76,7 +78,7 @@ count-found-requires-2 c κs =
 returns-2 : tie.Need-returns-2
 returns-2 c =
     let s = c .before .before .before .before .before .before .before .before .before .before .before in
-    c .count-found2 .ensures ∙ counted s maxCells (c .before .before .before .before .find2 .last .1 .1 .1 .1 .1 .0) (c .before .before .found5 .given) (shape-room (s .pre .0 .shape)) (c .before .before .before .before .find2 .ensures)
+    c .count-found2 .ensures ∙ counted s maxCells (c .before .before .before .before .find2 .last .1 .1 .1 .1 .1 .0) (c .before .before .found5 .given) (shape-room (s .pre .0 .shape)) (c .before .before .before .before .find2 .ensures .1)
 
 pub marked-count-spec : {M : Type 1} → statement M
 marked-count-spec =

@@ -15,9 +15,9 @@ use Rattle.table.specs.Table.{tableGame}
 use Rattle.table.specs.Marks.{marked}
 use Rattle.table.specs.Outputs.{over}
 use Rattle.table.proofs.Walk.{shape-room}
-use Rattle.pure_nash.specs.Found.{chosen}
-use Rattle.pure_nash.proofs.Known.{fewCells, known-none, few-profiles}
-use Rattle.pure_nash.proofs.Listing.{found-all, found-answer, found-choices, found-utilities}
+use Rattle.equilibrium_search.proofs.Known.{known-none}
+use Rattle.profile_listing.specs.Chosen.{chosen}
+use Rattle.pure_nash.proofs.Listing.{fewCells, few-profiles, found-all, found-answer, found-choices, found-utilities}
 use borrow.Author.Needs.{needs}
 use Rattle.pure_nash.proofs.marked_equilibria.Statement.{statement}
 use Rattle.pure_nash.proofs.marked_equilibria.Tie as tie
@@ -57,7 +57,7 @@ returns c =
     let a = s .args in
     let found = c .before .before .before .before .before .before .before .before .before .before .find .last .1 .1 .1 .1 .1 .0 in
     let is : chosen found (profiles (a .counts .now)) ≡ equilibria (tableGame (a .counts .now) (a .payoffs .now)) (marked (a .marks .now)) =
-    found-all (a .counts .now) (a .payoffs .now) (a .marks .now) found (rw (c .before .before .before .before .before .before .before .before .found2 .given) (few (c .before .before .before .before .before .before .before .before .before .before .before .before .before))) (c .before .before .before .before .before .before .before .before .before .before .find .ensures) in
+    found-all (a .counts .now) (a .payoffs .now) (a .marks .now) found (rw (c .before .before .before .before .before .before .before .before .found2 .given) (few (c .before .before .before .before .before .before .before .before .before .before .before .before .before))) (c .before .before .before .before .before .before .before .before .before .before .find .ensures .1) in
     let listed = c .before .before .before .before .list-found .ensures in
     let m = marked (a .marks .now) in
     let x : ℕ = length (a .choices .now) in
@@ -100,7 +100,7 @@ returns-2 c =
     let a = s .args in
     let found = c .before .before .before .before .before .before .before .before .before .before .find2 .last .1 .1 .1 .1 .1 .0 in
     let is : chosen found (profiles (a .counts .now)) ≡ equilibria (tableGame (a .counts .now) (a .payoffs .now)) (marked (a .marks .now)) =
-    found-all (a .counts .now) (a .payoffs .now) (a .marks .now) found (rw (c .before .before .before .before .before .before .before .before .found5 .given) (shape-room (s .pre .0 .shape))) (c .before .before .before .before .before .before .before .before .before .before .find2 .ensures) in
+    found-all (a .counts .now) (a .payoffs .now) (a .marks .now) found (rw (c .before .before .before .before .before .before .before .before .found5 .given) (shape-room (s .pre .0 .shape))) (c .before .before .before .before .before .before .before .before .before .before .find2 .ensures .1) in
     let listed = c .before .before .before .before .list-found2 .ensures in
     let m = marked (a .marks .now) in
     let x : ℕ = length (a .choices .now) in

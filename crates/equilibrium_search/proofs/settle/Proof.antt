@@ -1,4 +1,4 @@
--- `pure_nash::settle` meets its contract: the two tests of `Change` are those of a best response, and what is noted beside one is true.
+-- `equilibrium_search::settle` meets its contract: the two tests of `Change` are those of a best response, and what is noted beside one is true.
 -- Assumes nothing.
 use native.Mathlib.Omega.{arith}
 use borrow.Author.Tests.{not-true, not-false}
@@ -9,10 +9,10 @@ use lib.Dec.{T}
 use lib.ListN.{getD}
 use Rattle.game.proofs.Finite.{test-true, test-false}
 use Rattle.table.specs.Limits.{maxStrategies}
-use Rattle.pure_nash.proofs.Known.{Change, change}
+use Rattle.equilibrium_search.proofs.Known.{Change, change}
 use borrow.Author.Needs.{needs}
-use Rattle.pure_nash.proofs.settle.Statement.{statement}
-use Rattle.pure_nash.proofs.settle.Tie as tie
+use Rattle.equilibrium_search.proofs.settle.Statement.{statement}
+use Rattle.equilibrium_search.proofs.settle.Tie as tie
 
 -- the mark of the player's choice
 abbrev mark : tie.Start → Bool

@@ -1,4 +1,4 @@
--- `pure_nash::count_found` meets its contract: those counted and those to come are all. Assumes nothing.
+-- `profile_listing::count_found` meets its contract: those counted and those to come are all. Assumes nothing.
 use native.Mathlib.Omega.{arith}
 use mathlib.Core.Path.{_≡_, ap}
 use mathlib.Core.List.{List}
@@ -7,10 +7,10 @@ use Prim.Native.Nat.{ℕ, _+_, _-_, _≤_, _<_}
 use lib.ListN.{length, drop}
 use Rattle.game.specs.Finite.{below}
 use Rattle.game.proofs.Finite.{length-below}
-use Rattle.pure_nash.specs.Found.{chosen}
-use Rattle.pure_nash.proofs.Write.{chosen-yes, chosen-no, chosen-end}
-use Rattle.pure_nash.proofs.count_found.Statement.{statement}
-use Rattle.pure_nash.proofs.count_found.Tie as tie
+use Rattle.profile_listing.specs.Chosen.{chosen}
+use Rattle.profile_listing.proofs.Write.{chosen-yes, chosen-no, chosen-end}
+use Rattle.profile_listing.proofs.count_found.Statement.{statement}
+use Rattle.profile_listing.proofs.count_found.Tie as tie
 
 abbrev Inv-loop : tie.InvT-loop
 Inv-loop found total number₀ k₀ number k = (k ≤ total) × (number ≤ k) × (number + length (chosen (drop k found) (drop k (below total))) ≡ length (chosen found (below total)))

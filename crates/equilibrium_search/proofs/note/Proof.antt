@@ -1,4 +1,4 @@
--- `pure_nash::note` meets its contract: each turn notes at most the cell of its strategy, where the comparison has said so. Assumes nothing.
+-- `equilibrium_search::note` meets its contract: each turn notes at most the cell of its strategy, where the comparison has said so. Assumes nothing.
 use native.Mathlib.Omega.{arith}
 use mathlib.Core.Path.{_≡_, refl, sym, ap, _∙_, subst⁻¹}
 use mathlib.Core.Bool.{Bool, true, not}
@@ -7,10 +7,10 @@ use mathlib.Core.Logic.{⊎-elim, inl}
 use Prim.Native.Nat.{ℕ, _+_, _*_, _-_, _≤_}
 use lib.Dec.{T}
 use lib.ListN.{length, length-set}
-use Rattle.pure_nash.specs.Found.{Noted}
-use Rattle.pure_nash.proofs.Known.{noted-more}
-use Rattle.pure_nash.proofs.note.Statement.{statement}
-use Rattle.pure_nash.proofs.note.Tie as tie
+use Rattle.equilibrium_search.specs.Found.{Noted}
+use Rattle.equilibrium_search.proofs.Known.{noted-more}
+use Rattle.equilibrium_search.proofs.note.Statement.{statement}
+use Rattle.equilibrium_search.proofs.note.Tie as tie
 
 abbrev Inv-loop : tie.InvT-loop
 Inv-loop payoffs marks known₀ place start step count own t₀ known t = (t ≤ count) × (length known ≡ length known₀) × Noted payoffs marks place start step count own known₀ known

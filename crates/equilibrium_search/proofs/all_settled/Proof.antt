@@ -1,4 +1,4 @@
--- `pure_nash::all_settled` meets its contract: down from the last of the players, stride is the product of the counts from p on, every
+-- `equilibrium_search::all_settled` meets its contract: down from the last of the players, stride is the product of the counts from p on, every
 -- choice from p on is a best response, and what is known stays true. Assumes nothing.
 use native.Mathlib.Omega.{arith}
 use native.Mathlib.Nat.{le-refl, eq-or-lt-of-le}
@@ -14,9 +14,9 @@ use Rattle.game.specs.Finite.{below, product}
 use Rattle.game.proofs.Finite.{all-T, below-mem, test-true, test-false}
 use Rattle.table.specs.Limits.{maxCells}
 use Rattle.table.proofs.Walk.{Down, down}
-use Rattle.pure_nash.specs.Found.{settledAt, Known}
-use Rattle.pure_nash.proofs.all_settled.Statement.{statement}
-use Rattle.pure_nash.proofs.all_settled.Tie as tie
+use Rattle.equilibrium_search.specs.Found.{settledAt, Known}
+use Rattle.equilibrium_search.proofs.all_settled.Statement.{statement}
+use Rattle.equilibrium_search.proofs.all_settled.Tie as tie
 
 abbrev Inv-loop : tie.InvT-loop
 Inv-loop counts payoffs marks known₀ number after k stride₀ p₀ known stride p =

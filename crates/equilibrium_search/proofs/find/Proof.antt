@@ -1,4 +1,4 @@
--- `pure_nash::find` meets its contract: row after row, and those before the k-th profile are found. Assumes nothing.
+-- `equilibrium_search::find` meets its contract: row after row, and those before the k-th profile are found. Assumes nothing.
 use native.Mathlib.Omega.{arith}
 use native.Mathlib.Nat.{zero-mul, suc-mul}
 use mathlib.Core.Path.{_≡_, refl, sym, _∙_}
@@ -7,10 +7,10 @@ use lib.ListN.{length, getD}
 use Rattle.game.specs.Finite.{product}
 use Rattle.table.specs.Limits.{maxCells}
 use Rattle.table.proofs.Walk.{shape-room}
-use Rattle.pure_nash.specs.Found.{Known, Found}
-use Rattle.pure_nash.proofs.Rows.{row-room}
-use Rattle.pure_nash.proofs.find.Statement.{statement}
-use Rattle.pure_nash.proofs.find.Tie as tie
+use Rattle.equilibrium_search.specs.Found.{Known, Found}
+use Rattle.equilibrium_search.proofs.Rows.{row-room}
+use Rattle.equilibrium_search.proofs.find.Statement.{statement}
+use Rattle.equilibrium_search.proofs.find.Tie as tie
 
 abbrev Inv-loop : tie.InvT-loop
 Inv-loop counts payoffs marks total known₀ found₀ count k₀ known found k =
@@ -87,7 +87,10 @@ same-length-2 : tie.Need-same-length-2 Inv-loop μ-loop
 same-length-2 c = c .before .loop .inv .3
 
 returns : tie.Need-returns Inv-loop μ-loop
-returns c = λ k h. c .before .loop .inv .5 k (omega (arith, c .before .before .before .before .before .before .before .before .pre .1 .1 .0))
+returns c = (
+  c .before .loop .inv .4,
+  λ k h. c .before .loop .inv .5 k (omega (arith, c .before .before .before .before .before .before .before .before .pre .1 .1 .0)),
+)
 
 pub find-spec : {M : Type 1} → statement M
 find-spec =

@@ -1,4 +1,4 @@
--- `pure_nash::list_found` meets its contract: the count decides whether there is room, and the list is written where there is. Assumes nothing.
+-- `profile_listing::list_found` meets its contract: the count decides whether there is room, and the list is written where there is. Assumes nothing.
 use native.Mathlib.Omega.{arith}
 use native.Mathlib.Nat.{le-trans, mul-le-mul-right}
 use mathlib.Core.Path.{_≡_, sym, ap, _∙_, subst}
@@ -14,11 +14,11 @@ use Rattle.refusal.specs.declared.NormalFormError.the-variants.{OutputTooShort}
 use Rattle.table.specs.Limits.{maxCells}
 use Rattle.table.specs.Outputs.{over}
 use Rattle.table.proofs.Outputs.{first-short, second-short, room-fits}
-use Rattle.pure_nash.specs.Found.{chosen}
-use Rattle.pure_nash.proofs.Listing.{found-many, chosen-most, found-fits, found-short}
+use Rattle.profile_listing.specs.Chosen.{chosen}
+use Rattle.profile_listing.proofs.Listing.{found-many, chosen-most, found-fits, found-short}
 use borrow.Author.Needs.{needs}
-use Rattle.pure_nash.proofs.list_found.Statement.{statement}
-use Rattle.pure_nash.proofs.list_found.Tie as tie
+use Rattle.profile_listing.proofs.list_found.Statement.{statement}
+use Rattle.profile_listing.proofs.list_found.Tie as tie
 
 -- how many are found, and that P for each of them, and for each profile, are no more than there may be cells
 many : (c : tie.After-count-found) → let s = c .before .before .before .before .before .before .args in

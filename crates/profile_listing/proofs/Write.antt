@@ -10,7 +10,7 @@ use native.Mathlib.Omega.{arith}
 use lib.ListN.{length, getD, set, take, drop, length-append, length-drop, take-append-drop, drop-of-length-le}
 use lib.Seq.{take-suc, drop-cons, drop-length, drop-drop, set-at, length-take-le, take-at, drop-append-add}
 use Rattle.table.specs.Outputs.{over}
-use Rattle.pure_nash.specs.Found.{chosen}
+use Rattle.profile_listing.specs.Chosen.{chosen}
 
 -- ---- a list into its place, from its last element to its first
 

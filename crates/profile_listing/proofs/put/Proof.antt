@@ -1,4 +1,4 @@
--- `pure_nash::put` meets its contract: from the last player to the first, what is before at + p is as it was, and then the choices and the
+-- `profile_listing::put` meets its contract: from the last player to the first, what is before at + p is as it was, and then the choices and the
 -- payoffs from p on. Assumes nothing.
 use native.Mathlib.Omega.{arith}
 use native.Mathlib.Nat.{le-refl, div-one, add-zero, div-div-eq-div-mul}
@@ -16,9 +16,9 @@ use Rattle.table.specs.Table.{payoffAt, profilePart}
 use Rattle.table.proofs.Offsets.{nth-profile, nth-choice, offset-nth}
 use Rattle.table.proofs.Table.{part-at, part-length}
 use Rattle.table.proofs.Walk.{down}
-use Rattle.pure_nash.proofs.Write.{filled, fill-none, fill-more, fill-length}
-use Rattle.pure_nash.proofs.put.Statement.{statement}
-use Rattle.pure_nash.proofs.put.Tie as tie
+use Rattle.profile_listing.proofs.Write.{filled, fill-none, fill-more, fill-length}
+use Rattle.profile_listing.proofs.put.Statement.{statement}
+use Rattle.profile_listing.proofs.put.Tie as tie
 
 abbrev Inv-loop : tie.InvT-loop
 Inv-loop counts payoffs k choices₀ utilities₀ at players rest₀ p₀ choices utilities rest p =

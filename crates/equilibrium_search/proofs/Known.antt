@@ -5,7 +5,7 @@ use mathlib.Core.List.{List, []}
 use mathlib.Core.Logic.{_↔_, inr, ⊎-elim}
 use Prim.Native.Nat.{ℕ, zero, suc, _+_, _*_, _-_, _/_, _%_, _≤_, _<_}
 use native.Mathlib.Omega.{arith}
-use native.Mathlib.Nat.{mod-lt, zero-mul, add-zero, mul-le-mul-right, le-mul-of-pos-right}
+use native.Mathlib.Nat.{mod-lt, zero-mul, add-zero, mul-le-mul-right}
 use native.Mathlib.Numerals.{add-one}
 use lib.Arith.{digits-lt, digits-div, digits-mod}
 use lib.Dec.{T, ltb, eqb, nltb→le}
@@ -25,7 +25,7 @@ use Rattle.table.proofs.Offsets.{stride-positive, drop-at-most, cell-below, nth
 use Rattle.table.proofs.Walk.{shape-some, row-cell, row-pay, row-start, mark-at}
 use Rattle.best_response.specs.Row.{rowUnexceeded, rowBest}
 use Rattle.best_response.proofs.Row.{row-best}
-use Rattle.pure_nash.specs.Found.{settled, settledAt, Known, Noted}
+use Rattle.equilibrium_search.specs.Found.{settled, settledAt, Known, Noted}
 
 module _ (payoffs : List Float) (marks : List Bool) (place start step count own : ℕ) (before known : List Bool) where
   -- One cell more is noted.
@@ -171,10 +171,6 @@ change counts payoffs marks k p s table h mine e =
 
 -- ---- at the start
 
--- the code's FEW_CELLS
-abbrev pub fewCells : ℕ
-fewCells = 2048
-
 -- Nothing is known where there is no true.
 pub known-none : (counts : List ℕ) (payoffs : List Float) (marks : List Bool) (n : ℕ) → Known counts payoffs marks (replicate n false)
 known-none counts payoffs marks n k p h l t = absurd (subst T (all-false n (k * length counts + p)) t)
@@ -183,7 +179,3 @@ known-none counts payoffs marks n k p h l t = absurd (subst T (all-false n (k * 
     all-false zero i = refl
     all-false (suc n) zero = refl
     all-false (suc n) (suc i) = all-false n i
-
--- There are no more profiles than payoffs.
-pub few-profiles : {counts : List ℕ} {payoffs : List Float} → Table counts payoffs → product counts ≤ length payoffs
-few-profiles {counts} table = rw (table .full) (le-mul-of-pos-right (product counts) (table .shape .some))

@@ -1,4 +1,4 @@
--- `pure_nash::list` meets its contract: in both outputs those before the k-th profile are written, and the rest is as it was (`Listing`).
+-- `profile_listing::list` meets its contract: in both outputs those before the k-th profile are written, and the rest is as it was (`Listing`).
 -- Assumes nothing.
 use native.Mathlib.Omega.{arith}
 use mathlib.Core.Path.{_≡_, sym, _∙_, subst₂}
@@ -16,10 +16,10 @@ use Rattle.table.specs.Table.{profilePart}
 use Rattle.table.specs.Meaning.{Table}
 use Rattle.table.proofs.Offsets.{nth-profile}
 use Rattle.table.proofs.Table.{part-length}
-use Rattle.pure_nash.specs.Found.{chosen}
-use Rattle.pure_nash.proofs.Write.{Listing, chosen-many, listing-none, listing-length, listing-end, listing-no, listing-room, listing-yes, flat-length}
-use Rattle.pure_nash.proofs.list.Statement.{statement}
-use Rattle.pure_nash.proofs.list.Tie as tie
+use Rattle.profile_listing.specs.Chosen.{chosen}
+use Rattle.profile_listing.proofs.Write.{Listing, chosen-many, listing-none, listing-length, listing-end, listing-no, listing-room, listing-yes, flat-length}
+use Rattle.profile_listing.proofs.list.Statement.{statement}
+use Rattle.profile_listing.proofs.list.Tie as tie
 
 abbrev Inv-loop : tie.InvT-loop
 Inv-loop counts payoffs found total choices₀ utilities₀ at₀ k₀ choices utilities at k =

@@ -23,7 +23,7 @@ use Rattle.table.proofs.Offsets.{product-split, product-drop, stride-last, nth-
 use Rattle.table.proofs.Walk.{row-start}
 use Rattle.best_response.specs.Row.{rowBest, rowLowest}
 use Rattle.best_response.proofs.Row.{rowBest-T, row-top, row-best}
-use Rattle.pure_nash.specs.Found.{settled, settledAt, equilibriumAt, Found}
+use Rattle.equilibrium_search.specs.Found.{settled, settledAt, equilibriumAt, Found}
 
 -- ---- an equilibrium player by player
 

@@ -1,8 +1,8 @@
 -- What the walk keeps while it looks for equilibria: which choices it knows to be best responses, and which profiles it has found to be
 -- equilibria. Assumes nothing.
 use mathlib.Core.Path.{_≡_}
-use mathlib.Core.Bool.{Bool, false, cond}
-use mathlib.Core.List.{List, [], _∷_, map}
+use mathlib.Core.Bool.{Bool, false}
+use mathlib.Core.List.{List, []}
 use mathlib.Core.Logic.{_⊎_}
 use Prim.Native.Nat.{ℕ, _+_, _*_, _≤_, _<_}
 use lib.Dec.{T}
@@ -11,10 +11,8 @@ use lib.Ieee.{Float}
 use Rattle.game.specs.Finite.{product}
 use Rattle.game.specs.Game.{Game, Marks, choice, profiles}
 use Rattle.game.specs.Solution.{bestResponse, equilibrium}
-use Rattle.refusal.specs.Told.{Told, unless}
-use Rattle.table.specs.Table.{profilePart, cellRank, tableGame}
+use Rattle.table.specs.Table.{cellRank, tableGame}
 use Rattle.table.specs.Marks.{marked}
-use Rattle.table.specs.Outputs.{roomRefusal, written, joined}
 
 -- player p's choice in x is a best response to the others'
 unfoldable pub settled : Game → Marks → List ℕ → ℕ → Bool
@@ -44,20 +42,3 @@ Noted payoffs marks place start step count own before known =
     (i : ℕ) → T (getD known i false)
     → T (getD before i false)
     ⊎ ((t : ℕ) × (t < count) × (i ≡ start + t * step) × T (getD marks (place + t) false) × (cellRank payoffs own ≤ cellRank payoffs (start + t * step)))
-
--- the elements of a list that have a true
-abbrev pub chosen : {A : Type 0} → List Bool → List A → List A
-chosen [] xs = []
-chosen (b ∷ bs) [] = []
-chosen (b ∷ bs) (x ∷ xs) = let rest = chosen bs xs in cond b (x ∷ rest) rest
-
--- Those that are found, for outputs of lengths a and b: their number or 13, and what is written of their choices and of their payoffs.
-module _ (counts : List ℕ) (found : List Bool) (a b : ℕ) where
-  unfoldable pub foundAnswer : Told ℕ
-  foundAnswer = let n = length (chosen found (profiles counts)) in unless (roomRefusal (n * length counts) a b) n
-
-  unfoldable pub foundChoices : List ℕ
-  foundChoices = joined (written foundAnswer) (chosen found (profiles counts))
-
-unfoldable pub foundUtilities : List ℕ → List Float → List Bool → ℕ → ℕ → List Float
-foundUtilities counts payoffs found a b = joined (written (foundAnswer counts found a b)) (map (profilePart counts payoffs) (chosen found (profiles counts)))

@@ -1,4 +1,4 @@
--- `pure_nash::find_row` meets its contract: the profiles of the row before the t-th are found or not as they are equilibria, by the best of
+-- `equilibrium_search::find_row` meets its contract: the profiles of the row before the t-th are found or not as they are equilibria, by the best of
 -- the row for the last player and by `all_settled` for the others. Assumes nothing.
 use native.Mathlib.Omega.{arith}
 use borrow.Author.Tests.{not-true, not-false}
@@ -11,10 +11,10 @@ use lib.ListN.{length, getD, set, length-set}
 use Rattle.game.specs.Finite.{below}
 use Rattle.table.specs.Limits.{maxCells}
 use Rattle.best_response.proofs.Row.{lowest-below}
-use Rattle.pure_nash.specs.Found.{equilibriumAt, Known, Found}
-use Rattle.pure_nash.proofs.Rows.{found-more, row-struck, row-exceeded, row-reached, Row, row-facts}
-use Rattle.pure_nash.proofs.find_row.Statement.{statement}
-use Rattle.pure_nash.proofs.find_row.Tie as tie
+use Rattle.equilibrium_search.specs.Found.{equilibriumAt, Known, Found}
+use Rattle.equilibrium_search.proofs.Rows.{found-more, row-struck, row-exceeded, row-reached, Row, row-facts}
+use Rattle.equilibrium_search.proofs.find_row.Statement.{statement}
+use Rattle.equilibrium_search.proofs.find_row.Tie as tie
 
 abbrev Inv-loop : tie.InvT-loop
 Inv-loop counts payoffs marks known₀ found₀ k players last count place start top t₀ known found t =
