@@ -1,6 +1,4 @@
 -- The laws of this crate's definitions.
-pub mod Row
-pub mod Listing
 pub mod Opponents
 pub mod Walk
 pub mod Responses

@@ -23,9 +23,10 @@ use Rattle.table.specs.Outputs.{roomRefusal, written, over}
 use Rattle.table.proofs.Checks.{table-law, player-law, no-player}
 use Rattle.table.proofs.Offsets.{cell-below}
 use Rattle.table.proofs.Walk.{row-cell, marks-whole}
-use Rattle.best_response.specs.Row.{rowBests, rowReaching, rowLowest, rowResponses, rowAnswer, rowWritten, rowUtilities}
+use Rattle.strategy_row.specs.Row.{rowBests, rowReaching, rowLowest}
+use Rattle.strategy_row.proofs.Row.{row-reaching, row-bests}
+use Rattle.best_response.specs.Row.{rowResponses, rowAnswer, rowWritten, rowUtilities}
 use Rattle.best_response.specs.Answers.{against, opponentsRefusal, responses, responseUtilities, responsesAnswer, responsesWritten}
-use Rattle.best_response.proofs.Row.{row-reaching, row-bests}
 use Rattle.best_response.proofs.Opponents.{set-against, opponents-law, against-profile, Accepted}
 
 -- what is walked is the row, where its step is s and its lowest best one is b

@@ -23,8 +23,8 @@ use Rattle.table.specs.Marks.{marked}
 use Rattle.table.specs.Meaning.{Shape, Table}
 use Rattle.table.proofs.Offsets.{stride-positive, drop-at-most, cell-below, nth-profile, nth-offset, offset-nth, nth-choice, walk-at-most}
 use Rattle.table.proofs.Walk.{shape-some, row-cell, row-pay, row-start, mark-at}
-use Rattle.best_response.specs.Row.{rowUnexceeded, rowBest}
-use Rattle.best_response.proofs.Row.{row-best}
+use Rattle.strategy_row.specs.Row.{rowUnexceeded, rowBest}
+use Rattle.strategy_row.proofs.Row.{row-best}
 use Rattle.equilibrium_search.specs.Found.{settled, settledAt, Known, Noted}
 
 module _ (payoffs : List Float) (marks : List Bool) (place start step count own : ℕ) (before known : List Bool) where

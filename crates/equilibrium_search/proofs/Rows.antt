@@ -21,8 +21,8 @@ use Rattle.table.specs.Table.{stride, cellRank, tableGame}
 use Rattle.table.specs.Meaning.{Table}
 use Rattle.table.proofs.Offsets.{product-split, product-drop, stride-last, nth-profile, nth-choice}
 use Rattle.table.proofs.Walk.{row-start}
-use Rattle.best_response.specs.Row.{rowBest, rowLowest}
-use Rattle.best_response.proofs.Row.{rowBest-T, row-top, row-best}
+use Rattle.strategy_row.specs.Row.{rowBest, rowLowest}
+use Rattle.strategy_row.proofs.Row.{rowBest-T, row-top, row-best}
 use Rattle.equilibrium_search.specs.Found.{settled, settledAt, equilibriumAt, Found}
 
 -- ---- an equilibrium player by player

@@ -12,7 +12,7 @@ ghost use Rattle.equilibrium_search.specs.Found.{settledAt, Known, Noted
 // ---- the test of a profile
 
 // Notes in `known` the cell of each marked strategy of a row whose payoff that of the cell `own` does not exceed. The row is as in
-// best_response; a cell past the end of `known` is not noted. The contract says that what is noted is true, and no more.
+// strategy_row; a cell past the end of `known` is not noted. The contract says that what is noted is true, and no more.
 fn note(
     payoffs: &[f64],
     marks: &[bool],
@@ -71,7 +71,7 @@ fn settle(
     let start = (k - choice * stride) * players + player;
     let step = stride * players;
     let own = k * players + player;
-    if !best_response::unexceeded(payoffs, marks, place, start, step, count, own) {
+    if !strategy_row::unexceeded(payoffs, marks, place, start, step, count, own) {
         return false;
     }
     note(payoffs, marks, known, place, start, step, count, own);
@@ -142,7 +142,7 @@ fn find_row(
     let count = counts[last];
     let place = last * MAX_STRATEGIES;
     let start = k * players + last;
-    let top = start + best_response::best(payoffs, marks, place, start, players, count) * players;
+    let top = start + strategy_row::best(payoffs, marks, place, start, players, count) * players;
     let mut t: usize = 0;
     while t < count {
         let mut is = false;

@@ -3,26 +3,20 @@
 // checks have no refusals and answer by themselves.
 // A slice is a pointer and the number of its elements.
 use candidates::Claim;
-use refusal::BoolResult;
 use refusal::UnitResult;
 use refusal::UsizeResult;
-use survivors::Survivors;
 use table::MAX_MARKS;
 use table::MAX_PLAYERS;
-use table::SpaceResult;
 use table::StrategySpace;
 use utility::Utility;
-use utility::UtilityResult;
 ghost use mathlib.Core.Path.{_≡_};
-ghost use mathlib.Core.Bool.{not};
 ghost use mathlib.Core.List.{map};
-ghost use lib.Dec.{eqb};
 ghost use Rattle.game.specs.Finite.{all};
 ghost use Rattle.game.specs.Game.{strategy as named};
 ghost use lib.ListN.{length};
-ghost use Rattle.refusal.specs.Told.{toldUnit, toldUsize, toldBool, unless, status};
+ghost use Rattle.refusal.specs.Told.{unless, status};
 ghost use Rattle.utility.specs.Order.{finite};
-ghost use Rattle.utility.specs.Value.{utilityAnswer, toldUtility};
+ghost use Rattle.utility.specs.Value.{utilityAnswer};
 ghost use Rattle.table.specs.Step.{step};
 ghost use Rattle.table.specs.Checks.{countsRefusal, tableRefusal};
 ghost use Rattle.table.specs.Answers.{spaceOf, offsetAnswer, payoffAnswer};
@@ -33,136 +27,7 @@ ghost use Rattle.strict_dominance.specs.Answers.{strategiesOf, dominatorsOf, do
 ghost use Rattle.survivors.specs.Survivors.{freshOf};
 ghost use Rattle.survivors.specs.Answers.{strikeAnswer, strikeLeaves, survivingAnswer, survivingChoices, survivingUtilities, callsOf, dominatorOf, strikesAnswer, strikesLeave, strikesWritten};
 ghost use Rattle.candidates.specs.Checks.{incentives, verdictOf, minimax};
-ghost use Rattle.exports.specs.Status.{output, beside, partStart, partLength, survivorsOf, byteOf, markBytes};
-
-// ---- an answer into its outputs
-
-// A number into `number`.
-fn usize_into(answer: UsizeResult, number: &mut usize) -> u32
-    ensures { λ r. ⌜ r ≡ status (toldUsize answer) ⌝ }
-    ensures { λ r. ⌜ now (number .exit) ≡ output (toldUsize answer) (now (number .entry)) ⌝ }
-{
-    match answer {
-        UsizeResult::Ok(n) => {
-            *number = n;
-            0
-        }
-        UsizeResult::Err(e) => e.number(),
-    }
-}
-
-// A truth value into `truth`.
-fn bool_into(answer: BoolResult, truth: &mut bool) -> u32
-    ensures { λ r. ⌜ r ≡ status (toldBool answer) ⌝ }
-    ensures { λ r. ⌜ now (truth .exit) ≡ output (toldBool answer) (now (truth .entry)) ⌝ }
-{
-    match answer {
-        BoolResult::Ok(b) => {
-            *truth = b;
-            0
-        }
-        BoolResult::Err(e) => e.number(),
-    }
-}
-
-// A utility's value into `utility`.
-fn utility_into(answer: UtilityResult, utility: &mut f64) -> u32
-    ensures { λ r. ⌜ r ≡ status (toldUtility answer) ⌝ }
-    ensures { λ r. ⌜ now (utility .exit) ≡ output (toldUtility answer) (now (utility .entry)) ⌝ }
-{
-    match answer {
-        UtilityResult::Ok(u) => {
-            *utility = u.value();
-            0
-        }
-        UtilityResult::Err(e) => e.number(),
-    }
-}
-
-// A space into `players` and `space_counts`.
-fn space_into(
-    answer: SpaceResult,
-    players: &mut usize,
-    space_counts: &mut [usize; MAX_PLAYERS],
-) -> u32
-    ensures { λ r. ⌜ r ≡ status (toldUnit (answer .answer)) ⌝ }
-    ensures { λ r. ⌜ now (players .exit) ≡ beside (toldUnit (answer .answer)) (answer .space .players) (now (players .entry)) ⌝ }
-    ensures { λ r. ⌜ now («space_counts» .exit) ≡ beside (toldUnit (answer .answer)) (answer .space .counts) (now («space_counts» .entry)) ⌝ }
-{
-    let told = answer.answer;
-    match told {
-        UnitResult::Ok => {
-            let space = answer.space;
-            let counts = space.counts;
-            *players = space.players;
-            *space_counts = counts;
-            0
-        }
-        UnitResult::Err(e) => e.number(),
-    }
-}
-
-// ---- survivors, as C holds them
-
-// The marks of bytes: 0 is no mark, and any other byte is one.
-fn marks_of(bytes: [u8; MAX_MARKS]) -> [bool; MAX_MARKS]
-    ensures { λ r. ⌜ r ≡ map (λ b. not (eqb b 0)) bytes ⌝ }
-{
-    let mut marks = [true; MAX_MARKS];
-    let mut i: usize = 0;
-    while i < MAX_MARKS {
-        marks[i] = bytes[i] != 0;
-        i += 1;
-    }
-    marks
-}
-
-// The bytes of marks: 1, or 0 for no mark.
-fn bytes_of(marks: [bool; MAX_MARKS]) -> [u8; MAX_MARKS]
-    ensures { λ r. ⌜ r ≡ map byteOf marks ⌝ }
-{
-    let mut bytes = [0u8; MAX_MARKS];
-    let mut i: usize = 0;
-    while i < MAX_MARKS {
-        bytes[i] = marks[i] as u8;
-        i += 1;
-    }
-    bytes
-}
-
-// The survivors that C hands in.
-fn survivors_of(players: usize, counts: &[usize; MAX_PLAYERS], marks: &[u8; MAX_MARKS]) -> Survivors
-    ensures { λ r. ⌜ r ≡ survivorsOf players (now (counts .entry)) (now (marks .entry)) ⌝ }
-{
-    let held = *counts;
-    let bytes = *marks;
-    Survivors {
-        players: players,
-        counts: held,
-        marks: marks_of(bytes),
-    }
-}
-
-// Survivors into `players`, `counts` and `marks`.
-fn survivors_into(
-    survivors: Survivors,
-    players: &mut usize,
-    counts: &mut [usize; MAX_PLAYERS],
-    marks: &mut [u8; MAX_MARKS],
-)
-    ensures { λ r. ⌜ now (players .exit) ≡ survivors .players ⌝ }
-    ensures { λ r. ⌜ now (counts .exit) ≡ survivors .counts ⌝ }
-    ensures { λ r. ⌜ now (marks .exit) ≡ markBytes survivors ⌝ }
-{
-    let held = survivors.counts;
-    let left = survivors.marks;
-    let bytes = bytes_of(left);
-    *players = survivors.players;
-    *counts = held;
-    *marks = bytes;
-}
-
-// ---- the calls
+ghost use Rattle.c_outputs.specs.Status.{output, beside, partStart, partLength, survivorsOf, markBytes};
 
 // `Utility::new`: the value into `utility`, or 7.
 #[no_mangle]
@@ -170,7 +35,7 @@ pub extern "C" fn sigvanyor_utility_new(value: f64, utility: &mut f64) -> u32
     ensures { λ r. ⌜ r ≡ status (utilityAnswer value) ⌝ }
     ensures { λ r. ⌜ now (utility .exit) ≡ output (utilityAnswer value) (now (utility .entry)) ⌝ }
 {
-    utility_into(Utility::new(value), utility)
+    c_outputs::utility_into(Utility::new(value), utility)
 }
 
 // `all_finite`: whether every value is finite.
@@ -192,7 +57,7 @@ pub extern "C" fn sigvanyor_from_counts(
     ensures { λ r. ⌜ now (players .exit) ≡ output (unless (countsRefusal (now (counts .entry))) (spaceOf (now (counts .entry)) .players)) (now (players .entry)) ⌝ }
     ensures { λ r. ⌜ now («space_counts» .exit) ≡ output (unless (countsRefusal (now (counts .entry))) (spaceOf (now (counts .entry)) .counts)) (now («space_counts» .entry)) ⌝ }
 {
-    space_into(StrategySpace::from_counts(counts), players, space_counts)
+    c_outputs::space_into(StrategySpace::from_counts(counts), players, space_counts)
 }
 
 // `payoff_matrix`: the same for a table, or 1 to 7.
@@ -207,7 +72,7 @@ pub extern "C" fn sigvanyor_payoff_matrix_new(
     ensures { λ r. ⌜ now (players .exit) ≡ output (unless (tableRefusal (now (counts .entry)) (now (payoffs .entry))) (spaceOf (now (counts .entry)) .players)) (now (players .entry)) ⌝ }
     ensures { λ r. ⌜ now («space_counts» .exit) ≡ output (unless (tableRefusal (now (counts .entry)) (now (payoffs .entry))) (spaceOf (now (counts .entry)) .counts)) (now («space_counts» .entry)) ⌝ }
 {
-    space_into(table::payoff_matrix(counts, payoffs), players, space_counts)
+    c_outputs::space_into(table::payoff_matrix(counts, payoffs), players, space_counts)
 }
 
 // `offset`: the profile's offset into `offset`, or 1 to 7, 11, 12.
@@ -221,7 +86,7 @@ pub extern "C" fn sigvanyor_offset(
     ensures { λ r. ⌜ r ≡ status (offsetAnswer (now (counts .entry)) (now (payoffs .entry)) (now (profile .entry))) ⌝ }
     ensures { λ r. ⌜ now (offset .exit) ≡ output (offsetAnswer (now (counts .entry)) (now (payoffs .entry)) (now (profile .entry))) (now (offset .entry)) ⌝ }
 {
-    usize_into(table::offset(counts, payoffs, profile), offset)
+    c_outputs::usize_into(table::offset(counts, payoffs, profile), offset)
 }
 
 // `payoff`: the player's payoff at the profile into `utility`, or 1 to 7, 8, 11, 12.
@@ -236,7 +101,7 @@ pub extern "C" fn sigvanyor_payoff(
     ensures { λ r. ⌜ r ≡ status (payoffAnswer (now (counts .entry)) (now (payoffs .entry)) (now (profile .entry)) player) ⌝ }
     ensures { λ r. ⌜ now (utility .exit) ≡ output (payoffAnswer (now (counts .entry)) (now (payoffs .entry)) (now (profile .entry)) player) (now (utility .entry)) ⌝ }
 {
-    utility_into(table::payoff(counts, payoffs, profile, player), utility)
+    c_outputs::utility_into(table::payoff(counts, payoffs, profile, player), utility)
 }
 
 // `profile_payoffs`: the part's first place into `first` and its length into `number`, or 1 to 7, 11, 12.
@@ -303,7 +168,7 @@ pub extern "C" fn sigvanyor_best_responses(
         strategies,
         utilities,
     );
-    usize_into(answer, number)
+    c_outputs::usize_into(answer, number)
 }
 
 // `is_equilibrium`: whether the profile is an equilibrium into `equilibrium`, or 1 to 7, 11, 12.
@@ -317,7 +182,7 @@ pub extern "C" fn sigvanyor_is_equilibrium(
     ensures { λ r. ⌜ r ≡ status (isEquilibriumAnswer (now (counts .entry)) (now (payoffs .entry)) (now (profile .entry))) ⌝ }
     ensures { λ r. ⌜ now (equilibrium .exit) ≡ output (isEquilibriumAnswer (now (counts .entry)) (now (payoffs .entry)) (now (profile .entry))) (now (equilibrium .entry)) ⌝ }
 {
-    bool_into(
+    c_outputs::bool_into(
         pure_nash::is_equilibrium(counts, payoffs, profile),
         equilibrium,
     )
@@ -333,7 +198,7 @@ pub extern "C" fn sigvanyor_count_equilibria(
     ensures { λ r. ⌜ r ≡ status (countAnswer (now (counts .entry)) (now (payoffs .entry))) ⌝ }
     ensures { λ r. ⌜ now (number .exit) ≡ output (countAnswer (now (counts .entry)) (now (payoffs .entry))) (now (number .entry)) ⌝ }
 {
-    usize_into(pure_nash::count_equilibria(counts, payoffs), number)
+    c_outputs::usize_into(pure_nash::count_equilibria(counts, payoffs), number)
 }
 
 // `equilibria`: the choices of each into `choices`, the payoffs into `utilities`, and how many there are into `number`, or 1 to 7, 13.
@@ -351,7 +216,7 @@ pub extern "C" fn sigvanyor_equilibria(
     ensures { λ r. ⌜ now (utilities .exit) ≡ over (equilibriaUtilities (now (counts .entry)) (now (payoffs .entry)) (length (now (choices .entry))) (length (now (utilities .entry)))) (now (utilities .entry)) ⌝ }
 {
     let answer = pure_nash::equilibria(counts, payoffs, choices, utilities);
-    usize_into(answer, number)
+    c_outputs::usize_into(answer, number)
 }
 
 // `strictly_dominated_strategies`: the dominated strategies into `dominated`, the lowest dominator of each into `dominators`, and how many
@@ -377,7 +242,7 @@ pub extern "C" fn sigvanyor_strictly_dominated_strategies(
         dominated,
         dominators,
     );
-    usize_into(answer, number)
+    c_outputs::usize_into(answer, number)
 }
 
 // `fresh`: P, the counts with 0 from P on and the marks of the table's fresh survivors into the last three outputs, or 1 to 7.
@@ -399,7 +264,7 @@ pub extern "C" fn sigvanyor_fresh(
     let left = made.survivors;
     match answer {
         UnitResult::Ok => {
-            survivors_into(left, survivors_players, survivors_counts, survivors_marks);
+            c_outputs::survivors_into(left, survivors_players, survivors_counts, survivors_marks);
             0
         }
         UnitResult::Err(e) => e.number(),
@@ -423,14 +288,14 @@ pub extern "C" fn sigvanyor_strike(
     ensures { λ r. ⌜ now («survivors_marks» .exit) ≡ beside (strikeAnswer (now (counts .entry)) (now (payoffs .entry)) (survivorsOf «survivors_players» (now («survivors_counts» .entry)) (now («survivors_marks» .entry))) (named player strategy)) (markBytes (strikeLeaves (now (counts .entry)) (now (payoffs .entry)) (survivorsOf «survivors_players» (now («survivors_counts» .entry)) (now («survivors_marks» .entry))) (named player strategy))) (now («survivors_marks» .entry)) ⌝ }
 {
     let held = *survivors_marks;
-    let before = survivors_of(survivors_players, survivors_counts, &held);
+    let before = c_outputs::survivors_of(survivors_players, survivors_counts, &held);
     let struck = survivors::strike(counts, payoffs, before, player, strategy);
     let answer = struck.answer;
     let left = struck.survivors;
     match answer {
         UsizeResult::Ok(t) => {
             let marks = left.marks;
-            let bytes = bytes_of(marks);
+            let bytes = c_outputs::bytes_of(marks);
             *dominator = t;
             *survivors_marks = bytes;
             0
@@ -457,9 +322,9 @@ pub extern "C" fn sigvanyor_surviving_equilibria(
     ensures { λ r. ⌜ now (choices .exit) ≡ over (survivingChoices (now (counts .entry)) (now (payoffs .entry)) (survivorsOf «survivors_players» (now («survivors_counts» .entry)) (now («survivors_marks» .entry))) (length (now (choices .entry))) (length (now (utilities .entry)))) (now (choices .entry)) ⌝ }
     ensures { λ r. ⌜ now (utilities .exit) ≡ over (survivingUtilities (now (counts .entry)) (now (payoffs .entry)) (survivorsOf «survivors_players» (now («survivors_counts» .entry)) (now («survivors_marks» .entry))) (length (now (choices .entry))) (length (now (utilities .entry)))) (now (utilities .entry)) ⌝ }
 {
-    let left = survivors_of(survivors_players, survivors_counts, survivors_marks);
+    let left = c_outputs::survivors_of(survivors_players, survivors_counts, survivors_marks);
     let answer = survivors::surviving_equilibria(counts, payoffs, left, choices, utilities);
-    usize_into(answer, number)
+    c_outputs::usize_into(answer, number)
 }
 
 // `strikes`: the answer to each strike into `answers`, its dominator into `dominators`, how many were accepted into `number`, and P, the counts
@@ -491,7 +356,7 @@ pub extern "C" fn sigvanyor_strikes(
     match answer {
         UsizeResult::Ok(accepted) => {
             *number = accepted;
-            survivors_into(left, survivors_players, survivors_counts, survivors_marks);
+            c_outputs::survivors_into(left, survivors_players, survivors_counts, survivors_marks);
             0
         }
         UsizeResult::Err(e) => e.number(),

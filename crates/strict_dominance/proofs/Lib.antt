@@ -1,5 +1,4 @@
 -- The laws of this crate's definitions.
-pub mod Next
 pub mod Rows
 pub mod Dominated
 pub mod Meaning

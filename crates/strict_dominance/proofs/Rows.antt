@@ -23,7 +23,7 @@ use Rattle.table.specs.Marks.{marked}
 use Rattle.table.specs.Meaning.{Shape, Table}
 use Rattle.table.proofs.Offsets.{product-drop, drop-at-most, stride-positive, offset-below, offset-choice, nth-choice, nth-profile, nth-offset}
 use Rattle.table.proofs.Walk.{shape-some, shape-room, row-inside, row-pay, row-start, mark-at, mark-inside}
-use Rattle.strict_dominance.specs.Rows.{Seen, MarkedRow, NextRow}
+use Rattle.marked_rows.specs.Rows.{Seen, MarkedRow, NextRow}
 
 -- ---- where rows start: for a player with c strategies and stride s, at the first s offsets of every c × s
 

@@ -12,8 +12,8 @@ use Rattle.table.specs.Table.{stride}
 use Rattle.table.specs.Limits.{maxStrategies, maxMarks}
 use Rattle.table.proofs.Walk.{step-room}
 use Rattle.table.proofs.Outputs.{first-short, second-short, room-fits}
+use Rattle.strategy_row.proofs.Row.{first-cell, lowest-below}
 use Rattle.best_response.specs.Row.{rowResponses, rowAnswer, rowUtilities}
-use Rattle.best_response.proofs.Row.{first-cell, lowest-below}
 use Rattle.best_response.proofs.Responses.{found-responses, found-whole}
 use Rattle.best_response.proofs.row_responses.Statement.{statement}
 use Rattle.best_response.proofs.row_responses.Tie as tie

@@ -10,7 +10,7 @@ use lib.Dec.{T}
 use lib.ListN.{length, getD, set, length-set}
 use Rattle.game.specs.Finite.{below}
 use Rattle.table.specs.Limits.{maxCells}
-use Rattle.best_response.proofs.Row.{lowest-below}
+use Rattle.strategy_row.proofs.Row.{lowest-below}
 use Rattle.equilibrium_search.specs.Found.{equilibriumAt, Known, Found}
 use Rattle.equilibrium_search.proofs.Rows.{found-more, row-struck, row-exceeded, row-reached, Row, row-facts}
 use Rattle.equilibrium_search.proofs.find_row.Statement.{statement}

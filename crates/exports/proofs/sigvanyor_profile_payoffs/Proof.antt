@@ -12,7 +12,7 @@ use Rattle.refusal.proofs.Told.{told-refused}
 use Rattle.table.specs.Table.{offset}
 use Rattle.table.specs.Checks.{tableRefusal, profileRefusal}
 use Rattle.table.proofs.Table.{PartTold, part-told}
-use Rattle.exports.specs.Status.{output}
+use Rattle.c_outputs.specs.Status.{output}
 use Rattle.exports.proofs.sigvanyor_profile_payoffs.Statement.{statement}
 use Rattle.exports.proofs.sigvanyor_profile_payoffs.Tie as tie
 

@@ -1,0 +1,147 @@
+// What goes between a call and C: an answer into its outputs, which a refused answer leaves as they were, and survivors as C holds them.
+use refusal::BoolResult;
+use refusal::UnitResult;
+use refusal::UsizeResult;
+use survivors::Survivors;
+use table::MAX_MARKS;
+use table::MAX_PLAYERS;
+use table::SpaceResult;
+use utility::UtilityResult;
+ghost use mathlib.Core.Path.{_≡_};
+ghost use mathlib.Core.Bool.{not};
+ghost use mathlib.Core.List.{map};
+ghost use lib.Dec.{eqb};
+ghost use Rattle.refusal.specs.Told.{toldUnit, toldUsize, toldBool, status};
+ghost use Rattle.utility.specs.Value.{toldUtility};
+ghost use Rattle.c_outputs.specs.Status.{output, beside, survivorsOf, byteOf, markBytes};
+
+// ---- an answer into its outputs
+
+// A number into `number`.
+pub fn usize_into(answer: UsizeResult, number: &mut usize) -> u32
+    ensures { λ r. ⌜ r ≡ status (toldUsize answer) ⌝ }
+    ensures { λ r. ⌜ now (number .exit) ≡ output (toldUsize answer) (now (number .entry)) ⌝ }
+{
+    match answer {
+        UsizeResult::Ok(n) => {
+            *number = n;
+            0
+        }
+        UsizeResult::Err(e) => e.number(),
+    }
+}
+
+// A truth value into `truth`.
+pub fn bool_into(answer: BoolResult, truth: &mut bool) -> u32
+    ensures { λ r. ⌜ r ≡ status (toldBool answer) ⌝ }
+    ensures { λ r. ⌜ now (truth .exit) ≡ output (toldBool answer) (now (truth .entry)) ⌝ }
+{
+    match answer {
+        BoolResult::Ok(b) => {
+            *truth = b;
+            0
+        }
+        BoolResult::Err(e) => e.number(),
+    }
+}
+
+// A utility's value into `utility`.
+pub fn utility_into(answer: UtilityResult, utility: &mut f64) -> u32
+    ensures { λ r. ⌜ r ≡ status (toldUtility answer) ⌝ }
+    ensures { λ r. ⌜ now (utility .exit) ≡ output (toldUtility answer) (now (utility .entry)) ⌝ }
+{
+    match answer {
+        UtilityResult::Ok(u) => {
+            *utility = u.value();
+            0
+        }
+        UtilityResult::Err(e) => e.number(),
+    }
+}
+
+// A space into `players` and `space_counts`.
+pub fn space_into(
+    answer: SpaceResult,
+    players: &mut usize,
+    space_counts: &mut [usize; MAX_PLAYERS],
+) -> u32
+    ensures { λ r. ⌜ r ≡ status (toldUnit (answer .answer)) ⌝ }
+    ensures { λ r. ⌜ now (players .exit) ≡ beside (toldUnit (answer .answer)) (answer .space .players) (now (players .entry)) ⌝ }
+    ensures { λ r. ⌜ now («space_counts» .exit) ≡ beside (toldUnit (answer .answer)) (answer .space .counts) (now («space_counts» .entry)) ⌝ }
+{
+    let told = answer.answer;
+    match told {
+        UnitResult::Ok => {
+            let space = answer.space;
+            let counts = space.counts;
+            *players = space.players;
+            *space_counts = counts;
+            0
+        }
+        UnitResult::Err(e) => e.number(),
+    }
+}
+
+// ---- survivors, as C holds them
+
+// The marks of bytes: 0 is no mark, and any other byte is one.
+pub fn marks_of(bytes: [u8; MAX_MARKS]) -> [bool; MAX_MARKS]
+    ensures { λ r. ⌜ r ≡ map (λ b. not (eqb b 0)) bytes ⌝ }
+{
+    let mut marks = [true; MAX_MARKS];
+    let mut i: usize = 0;
+    while i < MAX_MARKS {
+        marks[i] = bytes[i] != 0;
+        i += 1;
+    }
+    marks
+}
+
+// The bytes of marks: 1, or 0 for no mark.
+pub fn bytes_of(marks: [bool; MAX_MARKS]) -> [u8; MAX_MARKS]
+    ensures { λ r. ⌜ r ≡ map byteOf marks ⌝ }
+{
+    let mut bytes = [0u8; MAX_MARKS];
+    let mut i: usize = 0;
+    while i < MAX_MARKS {
+        bytes[i] = marks[i] as u8;
+        i += 1;
+    }
+    bytes
+}
+
+// The survivors that C hands in.
+pub fn survivors_of(
+    players: usize,
+    counts: &[usize; MAX_PLAYERS],
+    marks: &[u8; MAX_MARKS],
+) -> Survivors
+    ensures { λ r. ⌜ r ≡ survivorsOf players (now (counts .entry)) (now (marks .entry)) ⌝ }
+{
+    let held = *counts;
+    let bytes = *marks;
+    Survivors {
+        players: players,
+        counts: held,
+        marks: marks_of(bytes),
+    }
+}
+
+// Survivors into `players`, `counts` and `marks`.
+pub fn survivors_into(
+    survivors: Survivors,
+    players: &mut usize,
+    counts: &mut [usize; MAX_PLAYERS],
+    marks: &mut [u8; MAX_MARKS],
+)
+    ensures { λ r. ⌜ now (players .exit) ≡ survivors .players ⌝ }
+    ensures { λ r. ⌜ now (counts .exit) ≡ survivors .counts ⌝ }
+    ensures { λ r. ⌜ now (marks .exit) ≡ markBytes survivors ⌝ }
+{
+    let held = survivors.counts;
+    let left = survivors.marks;
+    let bytes = bytes_of(left);
+    *players = survivors.players;
+    *counts = held;
+    *marks = bytes;
+}
