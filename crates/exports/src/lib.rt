@@ -17,10 +17,10 @@ ghost use lib.ListN.{length};
 ghost use Rattle.refusal.specs.Told.{unless, status};
 ghost use Rattle.utility.specs.Order.{finite};
 ghost use Rattle.utility.specs.Value.{utilityAnswer};
-ghost use Rattle.table.specs.Step.{step};
 ghost use Rattle.table.specs.Checks.{countsRefusal, tableRefusal};
 ghost use Rattle.table.specs.Answers.{spaceOf, offsetAnswer, payoffAnswer};
 ghost use Rattle.table.specs.Outputs.{over};
+ghost use Rattle.profile_step.specs.Step.{step};
 ghost use Rattle.best_response.specs.Answers.{responseUtilities, responsesAnswer, responsesWritten};
 ghost use Rattle.pure_nash.specs.Answers.{isEquilibriumAnswer, countAnswer, equilibriaAnswer, equilibriaChoices, equilibriaUtilities};
 ghost use Rattle.strict_dominance.specs.Answers.{strategiesOf, dominatorsOf, dominatedAnswer, dominatedWritten};
@@ -137,7 +137,7 @@ pub extern "C" fn sigvanyor_advance_profile(
     ensures { λ r. ⌜ now (profile .exit) ≡ step (now (counts .entry)) (now (profile .entry)) .profile ⌝ }
 {
     let before = *profile;
-    let stepped = table::advance_profile(counts, before);
+    let stepped = profile_step::advance_profile(counts, before);
     let next = stepped.profile;
     *profile = next;
     stepped.more

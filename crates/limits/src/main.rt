@@ -114,7 +114,7 @@ fn of_profile(name: &[u8], counts: &[usize], payoffs: &[f64], profile: &[usize],
 // The step from a profile: whether there was a next one, and the choices after it.
 fn of_step(name: &[u8], counts: &[usize], profile: [usize; MAX_PLAYERS]) {
     text(name);
-    let next = table::advance_profile(counts, profile);
+    let next = profile_step::advance_profile(counts, profile);
     if next.more {
         text(b": more,");
     } else {

@@ -159,7 +159,7 @@ fn draw_payoffs(
         player = one_more(player);
         if counts.len() <= player {
             player = 0;
-            let step = table::advance_profile(counts, profile);
+            let step = profile_step::advance_profile(counts, profile);
             if !step.more {
                 return Drawn { x: x, cells: i };
             }

@@ -1,5 +1,5 @@
--- Document 01's table of 2, 3 and 4 strategies, steps at its edges, and the refusals' order at the limits, computed: each is true by the
--- definitions alone. Assumes nothing.
+-- Document 01's table of 2, 3 and 4 strategies, and the refusals' order at the limits, computed: each is true by the definitions alone.
+-- Assumes nothing.
 use mathlib.Core.Path.{_≡_, refl}
 use mathlib.Core.Bool.{true, false}
 use mathlib.Core.List.{List, [], _∷_, map}
@@ -12,7 +12,6 @@ use Rattle.refusal.specs.Told.{values, refused}
 use Rattle.utility.specs.Order.{finite}
 use Rattle.table.specs.Limits.{maxPlayers, maxStrategies}
 use Rattle.table.specs.Table.{cells, offset, stride, cell, payoffAt, profilePart}
-use Rattle.table.specs.Step.{step}
 use Rattle.table.specs.Checks.{countRefusal, countsRefusal, payoffsRefusal, tableRefusal, playerRefusal, profileRefusal}
 use Rattle.table.specs.Answers.{spaceOf, countsAnswer, tableAnswer, offsetAnswer, payoffAnswer, profilePayoffs}
 
@@ -38,13 +37,6 @@ record Computed : Type 0 where
   inner-cell : cell counts (0 ∷ 1 ∷ 2 ∷ []) 1 ≡ 19
   -- the last player's choice runs fastest
   strides : map (stride counts) (below 3) ≡ 12 ∷ 4 ∷ 1 ∷ []
-  -- the last choice goes up, a choice that has no room begins again, and the last profile has no next one
-  step-up : step counts (1 ∷ 2 ∷ 2 ∷ []) ≡ record { more = true; profile = 1 ∷ 2 ∷ 3 ∷ [] }
-  step-carries : step counts (0 ∷ 2 ∷ 3 ∷ []) ≡ record { more = true; profile = 1 ∷ 0 ∷ 0 ∷ [] }
-  step-from-last : step counts (1 ∷ 2 ∷ 3 ∷ []) ≡ record { more = false; profile = 0 ∷ 0 ∷ 0 ∷ [] }
-  -- a choice past its count has no room, and choices past the counts stay
-  step-past-count : step counts (0 ∷ 1 ∷ 9 ∷ []) ≡ record { more = true; profile = 0 ∷ 2 ∷ 0 ∷ [] }
-  step-past-counts : step counts (0 ∷ 0 ∷ 3 ∷ 7 ∷ []) ≡ record { more = true; profile = 0 ∷ 1 ∷ 0 ∷ 7 ∷ [] }
   -- 1, 2, then 3 and 4 player by player, then 5; 65,536 cells are accepted
   no-players : countsAnswer [] ≡ refused 1
   nine-players : countsAnswer (replicate (suc maxPlayers) 0) ≡ refused 2
@@ -80,11 +72,6 @@ computed =
       first-offset = refl;
       inner-cell = refl;
       strides = refl;
-      step-up = refl;
-      step-carries = refl;
-      step-from-last = refl;
-      step-past-count = refl;
-      step-past-counts = refl;
       no-players = refl;
       nine-players = refl;
       none-then-many = refl;

@@ -3,7 +3,6 @@ pub mod Products
 pub mod Checks
 pub mod Space
 pub mod Offsets
-pub mod Step
 pub mod Table
 pub mod Outputs
 pub mod Walk

@@ -2,7 +2,6 @@
 pub mod Limits
 pub mod Table
 pub mod Marks
-pub mod Step
 pub mod Checks
 pub mod Meaning
 pub mod Outputs

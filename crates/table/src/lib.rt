@@ -1,4 +1,4 @@
-// Tables of payoffs: their checks, a profile's offset and payoffs, and the step to the next profile.
+// Tables of payoffs: their checks, and a profile's offset and payoffs.
 // A table is two slices, the players' counts and the payoffs; P is the number of counts. Any numbers and lengths may be handed in.
 use refusal::NormalFormError;
 use refusal::UnitResult;
@@ -13,7 +13,6 @@ ghost use lib.ListN.{length};
 ghost use Rattle.refusal.specs.Told.{toldUnit, toldUsize, unless};
 ghost use Rattle.utility.specs.Value.{toldUtility};
 ghost use Rattle.table.specs.Table.{offset, stride, cellRank};
-ghost use Rattle.table.specs.Step.{step};
 ghost use Rattle.table.specs.Meaning.{Shape, Finites};
 ghost use Rattle.table.specs.Checks.{countsRefusal, tableRefusal, profileRefusal};
 ghost use Rattle.table.specs.Answers.{places, spaceUnless, spaceResult, countsAnswer, tableAnswer, offsetAnswer, payoffAnswer, profilePayoffs};
@@ -38,12 +37,6 @@ pub struct StrategySpace {
 pub struct SpaceResult {
     pub answer: UnitResult,
     pub space: StrategySpace,
-}
-
-// Whether there was a next profile, and the choices after the step.
-pub struct Advanced {
-    pub more: bool,
-    pub profile: [usize; MAX_PLAYERS],
 }
 
 // The number of profiles, or the first of refusals 1 to 5.
@@ -211,38 +204,6 @@ pub fn profile_payoffs<'a>(counts: &[usize], payoffs: &'a [f64], profile: &[usiz
             let end = start + counts.len();
             &payoffs[start..end]
         }
-    }
-}
-
-// The next profile in lexicographic order, for the players of `counts`. Any counts and choices may come: a choice that cannot go up,
-// because it is the last one, at its count or past it, goes to 0 and the player before it goes up. Places past the players keep their
-// contents, and players past the last place are not read.
-pub fn advance_profile(counts: &[usize], profile: [usize; MAX_PLAYERS]) -> Advanced
-    ensures { λ r. ⌜ r ≡ step (now (counts .entry)) profile ⌝ }
-{
-    let mut next = profile;
-    let mut p = counts.len();
-    if MAX_PLAYERS < p {
-        p = MAX_PLAYERS;
-    }
-    while 0 < p {
-        p -= 1;
-        let count = counts[p];
-        let choice = next[p];
-        if choice < count {
-            if choice + 1 < count {
-                next[p] = choice + 1;
-                return Advanced {
-                    more: true,
-                    profile: next,
-                };
-            }
-        }
-        next[p] = 0;
-    }
-    Advanced {
-        more: false,
-        profile: next,
     }
 }
 

@@ -1,7 +1,7 @@
 -- `exports::sigvanyor_advance_profile` meets its contract, by that of `advance_profile`. Assumes nothing.
 use mathlib.Core.Path.{ap}
 use borrow.Author.Needs.{needs}
-use Rattle.table.specs.declared.Advanced.{Advanced}
+use Rattle.profile_step.specs.declared.Advanced.{Advanced}
 use Rattle.exports.proofs.sigvanyor_advance_profile.Statement.{statement}
 use Rattle.exports.proofs.sigvanyor_advance_profile.Tie as tie
 

@@ -1,4 +1,4 @@
--- Stepping goes from the k-th profile to the next, and from the last to the first: by `nth-cons` of Offsets, the first choice stays
+-- Stepping goes from the k-th profile to the next, and from the last to the first: by `nth-cons` of `table`'s Offsets, the first choice stays
 -- while the rest has a next one, and goes up by one where the rest begins again. Then what a loop over the players, from the last down,
 -- needs of `step`. Assumes nothing.
 use mathlib.Core.Path.{_≡_, refl, ap, _∙_}
@@ -13,9 +13,9 @@ use lib.ListN.{length, getD, set, take}
 use Rattle.game.specs.Finite.{product}
 use Rattle.game.specs.Game.{profiles}
 use Rattle.game.proofs.Finite.{test-true, test-false}
-use Rattle.table.specs.Step.{carried, step}
-use Rattle.table.specs.declared.Advanced.{Advanced}
 use Rattle.table.proofs.Offsets.{nth-cons, nth-profile, digits}
+use Rattle.profile_step.specs.Step.{carried, step}
+use Rattle.profile_step.specs.declared.Advanced.{Advanced}
 
 -- where the players after have begun again, a choice with room goes up by one
 up : (c s : ℕ) (x : List ℕ) → s + 1 < c

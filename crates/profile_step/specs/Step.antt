@@ -4,7 +4,7 @@ use mathlib.Core.Bool.{true, false, cond}
 use mathlib.Core.List.{List, [], _∷_}
 use Prim.Native.Nat.{ℕ, _+_}
 use lib.Dec.{ltb}
-use Rattle.table.specs.declared.Advanced.{Advanced}
+use Rattle.profile_step.specs.declared.Advanced.{Advanced}
 
 -- Player with count c and choice s, once the players after it have stepped. Where these had a next choice, s stays. Else s goes up by
 -- one, if that is below c, and where it is not (s may be at or past c, up to the largest number) s goes to 0, and the player before

@@ -1,4 +1,4 @@
--- `table::advance_profile` meets its contract. The invariant: the step of the first p players from what the choices are now is the step of
+-- `profile_step::advance_profile` meets its contract. The invariant: the step of the first p players from what the choices are now is the step of
 -- all from what they were. Assumes nothing.
 use mathlib.Core.Path.{_≡_, sym, ap, _∙_}
 use mathlib.Core.List.{List}
@@ -7,11 +7,11 @@ use Prim.Native.Nat.{ℕ, _+_, _-_, _≤_}
 use native.Mathlib.Omega.{arith}
 use lib.ListN.{length, getD, take, length-set}
 use lib.Seq.{take-all}
 use Rattle.table.specs.Limits.{maxPlayers}
-use Rattle.table.specs.Step.{step}
-use Rattle.table.proofs.Step.{step-down-stop, step-down-carry, step-few}
-use Rattle.table.proofs.advance_profile.Statement.{statement}
-use Rattle.table.proofs.advance_profile.Tie as tie
+use Rattle.profile_step.specs.Step.{step}
+use Rattle.profile_step.proofs.Step.{step-down-stop, step-down-carry, step-few}
+use Rattle.profile_step.proofs.advance_profile.Statement.{statement}
+use Rattle.profile_step.proofs.advance_profile.Tie as tie
 
 abbrev Inv-loop : tie.InvT-loop
 Inv-loop counts next₀ p₀ next p = (p ≤ length counts) × (p ≤ maxPlayers) × (length next ≡ maxPlayers) × (step counts next₀ ≡ step (take p counts) next)
