@@ -1,0 +1,7 @@
+-- The laws of this crate's definitions.
+pub mod Bits
+pub mod Faults
+pub mod Tables
+pub mod Reader
+pub mod Puts
+pub mod Writer

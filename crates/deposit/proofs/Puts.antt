@@ -1,0 +1,91 @@
+-- Words put one after the other are their list put at once (`put-more`), and from the first place on they stand before the old rest (`put-whole`).
+-- Assumes nothing.
+use mathlib.Core.Path.{_≡_, refl, sym, ap, _∙_}
+use mathlib.Core.List.{List, [], _∷_, _++_, map, flatMap, append-assoc, append-nil, map-append}
+use Prim.Native.Nat.{ℕ, suc, _+_, _*_, _<_, _≤_}
+use native.Mathlib.Nat.{add-zero, zero-add, add-suc, suc-add}
+use native.Mathlib.Numerals.{add-one}
+use native.Mathlib.Omega.{arith}
+use lib.ListN.{length, getD, set, take, drop, length-map, length-append}
+use lib.Seq.{sets, sets-eq, length-sets, take-suc, length-take-le}
+use lib.Ieee.{Float, nan}
+use Rattle.game.proofs.Finite.{flatMap-last, length-flatMap, sum-equal}
+use Rattle.table.specs.Outputs.{over}
+use Rattle.words.specs.Words.{word, wordBytes, bytesOf}
+use Rattle.words.proofs.Words.{bytes-length}
+use Rattle.deposit.specs.Deposit.{payoffWords}
+use Rattle.deposit.specs.Put.{wordsPut}
+
+-- ---- stores one after the other
+
+sets-append : (vs us l : List ℕ) (i : ℕ) → sets l i (vs ++ us) ≡ sets (sets l i vs) (i + length vs) us
+sets-append [] us l i = ap (λ (k : ℕ). sets l k us) (sym (add-zero i))
+sets-append (a ∷ vs) us l i =
+    sets-append vs us (set l i a) (suc i) ∙ ap (λ (k : ℕ). sets (sets (set l i a) (suc i) vs) k us) (suc-add i (length vs) ∙ sym (add-suc i (length vs)))
+
+pub bytes-append : (xs ys : List ℕ) → bytesOf (xs ++ ys) ≡ bytesOf xs ++ bytesOf ys
+unfolding bytesOf flatMap
+bytes-append [] ys = refl
+bytes-append (x ∷ xs) ys = ap (λ (r : List ℕ). wordBytes x ++ r) (bytes-append xs ys) ∙ sym (append-assoc (wordBytes x) (bytesOf xs) (bytesOf ys))
+
+pub put-more : (bytes : List ℕ) (i j : ℕ) (xs ys : List ℕ) → j ≡ i + length xs → wordsPut (wordsPut bytes i xs) j ys ≡ wordsPut bytes i (xs ++ ys)
+put-more bytes i j xs ys e =
+    let at : 4 * j ≡ 4 * i + length (bytesOf xs) = omega (arith, e, bytes-length xs) in
+    ap (λ (k : ℕ). sets (wordsPut bytes i xs) k (bytesOf ys)) at
+    ∙ sym (ap (λ (r : List ℕ). sets bytes (4 * i) r) (bytes-append xs ys) ∙ sets-append (bytesOf xs) (bytesOf ys) bytes (4 * i))
+
+pub put-length : (bytes : List ℕ) (i : ℕ) (ws : List ℕ) → length (wordsPut bytes i ws) ≡ length bytes
+put-length bytes i ws = length-sets bytes (4 * i) (bytesOf ws)
+
+pub put-none : (bytes : List ℕ) (i : ℕ) → wordsPut bytes i [] ≡ bytes
+unfolding bytesOf flatMap
+put-none bytes i = refl
+
+pub put-whole : (bytes ws : List ℕ) → length ws * 4 ≤ length bytes → wordsPut bytes 0 ws ≡ over (bytesOf ws) bytes
+put-whole bytes ws h =
+    sets-eq (bytesOf ws) bytes 0 (omega (arith, h, bytes-length ws)) ∙ ap (λ (n : ℕ). bytesOf ws ++ drop n bytes) (zero-add (length (bytesOf ws)))
+
+-- ---- the four bytes of a word
+
+pub four-stores : (bytes : List ℕ) (at a b c d : ℕ)
+    → set (set (set (set bytes at a) (at + 1) b) (at + 2) c) (at + 3) d ≡ sets bytes at (a ∷ b ∷ c ∷ d ∷ [])
+four-stores bytes at a b c d =
+    let one : at + 1 ≡ suc at = omega arith in
+    let two : at + 2 ≡ suc (suc at) = omega arith in
+    let three : at + 3 ≡ suc (suc (suc at)) = omega arith in
+    rw (one, two, three) refl
+
+pub word-stores : (bytes : List ℕ) (place k n : ℕ)
+    → sets bytes (4 * place) (wordBytes (word k n)) ≡ wordsPut bytes place (word k n ∷ [])
+unfolding bytesOf flatMap
+word-stores bytes place k n = ap (λ (r : List ℕ). sets bytes (4 * place) r) (sym (append-nil (wordBytes (word k n))))
+
+-- ---- the counts, and the payoffs
+
+pub counts-more : (bytes counts : List ℕ) (p : ℕ) → p < length counts
+    → wordsPut (wordsPut bytes 1 (map (word 1) (take p counts))) (1 + p) (word 1 (getD counts p 0) ∷ []) ≡ wordsPut bytes 1 (map (word 1) (take (p + 1) counts))
+counts-more bytes counts p h =
+    let size : length (map (word 1) (take p counts)) ≡ p = length-map (take p counts) (word 1) ∙ length-take-le p counts (omega (arith, h)) in
+    put-more bytes 1 (1 + p) (map (word 1) (take p counts)) (word 1 (getD counts p 0) ∷ []) (omega (arith, size))
+    ∙ ap (λ (r : List ℕ). wordsPut bytes 1 r) (sym (rw (add-one p, take-suc counts p 0 h) (map-append (word 1) (take p counts) (getD counts p 0 ∷ []))))
+
+words-three : (x : Float) → length (payoffWords x) ≡ 3
+unfolding payoffWords
+words-three x = refl
+
+pub payoffs-words : (xs : List Float) → length (flatMap payoffWords xs) ≡ length xs * 3
+payoffs-words xs = length-flatMap payoffWords xs ∙ sum-equal (λ x. length (payoffWords x)) 3 words-three xs
+
+pub payoffs-more : (bytes : List ℕ) (start : ℕ) (xs : List Float) (i : ℕ) → i < length xs
+    → wordsPut (wordsPut bytes start (flatMap payoffWords (take i xs))) (start + 3 * i) (payoffWords (getD xs i nan)) ≡ wordsPut bytes start (flatMap payoffWords (take (i + 1) xs))
+payoffs-more bytes start xs i h =
+    let size : length (flatMap payoffWords (take i xs)) ≡ i * 3 = payoffs-words (take i xs) ∙ ap (λ (n : ℕ). n * 3) (length-take-le i xs (omega (arith, h))) in
+    put-more bytes start (start + 3 * i) (flatMap payoffWords (take i xs)) (payoffWords (getD xs i nan)) (omega (arith, size))
+    ∙ ap (λ (r : List ℕ). wordsPut bytes start r) (sym (rw (add-one i, take-suc xs i nan h) (flatMap-last payoffWords (take i xs) (getD xs i nan))))
+
+-- one after the other, the three words of a payoff
+pub three-words : (bytes : List ℕ) (at a b c : ℕ)
+    → wordsPut (wordsPut (wordsPut bytes at (a ∷ [])) (at + 1) (b ∷ [])) (at + 2) (c ∷ []) ≡ wordsPut bytes at (a ∷ b ∷ c ∷ [])
+three-words bytes at a b c =
+    ap (λ (r : List ℕ). wordsPut r (at + 2) (c ∷ [])) (put-more bytes at (at + 1) (a ∷ []) (b ∷ []) refl)
+    ∙ put-more bytes at (at + 2) (a ∷ b ∷ []) (c ∷ []) refl

@@ -1,0 +1,88 @@
+-- The reader's refusals in the stages in which they are met: the opening word, the counts, the room, the rest. What is answered and written where
+-- one of them refuses, and where none does. Assumes nothing.
+use mathlib.Core.Path.{_≡_, refl, sym, ap, _∙_}
+use mathlib.Core.List.{List}
+use mathlib.Core.Option.{none, some}
+use Prim.Native.Nat.{ℕ, _+_, _*_, _<_, _≤_}
+use borrow.Author.Tests.{lt-ltb, le-ltb}
+use lib.Dec.{ltb}
+use lib.ListN.{length}
+use lib.Ieee.{Float}
+use Rattle.game.specs.Finite.{below}
+use Rattle.refusal.specs.Refusal.{Refusal, numberOf, when, _then_, each}
+use Rattle.refusal.specs.Told.{values, refused}
+use Rattle.refusal.specs.declared.NormalFormError.{NormalFormError}
+use Rattle.refusal.specs.declared.NormalFormError.the-variants.{TooManyCells, OutputTooShort}
+use Rattle.table.specs.Limits.{maxCells}
+use Rattle.table.specs.Table.{cells}
+use Rattle.table.specs.Outputs.{over}
+use Rattle.words.specs.Words.{wordsOf}
+use Rattle.words.specs.Faults.{lengthRefusal, closingRefusal}
+use Rattle.deposit.specs.Deposit.{playersIn, countsIn, payoffsIn, openingRefusal, countFault, cellFault, wordsRefusal, readRefusal, tableOf}
+use Rattle.deposit.specs.Answers.{readAnswer, readCounts, readPayoffs}
+use Rattle.deposit.proofs.Tables.{counts-length}
+
+then-assoc : (a b c : Refusal) → ((a then b) then c) ≡ (a then b then c)
+then-assoc none b c = refl
+then-assoc (some e) b c = refl
+
+-- the cells from the place after P counts on, n of them, and the closing word
+abbrev pub restFrom : List ℕ → ℕ → ℕ → Refusal
+restFrom ws p n = each (λ i. cellFault ws (1 + p + 3 * i)) (below n) then closingRefusal ws (1 + p + 3 * n)
+
+module _ (bytes : List ℕ) where
+  abbrev pub opened : Refusal
+  opened = lengthRefusal bytes then openingRefusal (wordsOf bytes)
+
+  abbrev pub counted : Refusal
+  counted = let ws = wordsOf bytes in each (countFault ws) (below (playersIn ws)) then when (ltb maxCells (cells (countsIn ws))) TooManyCells
+
+  abbrev pub rest : Refusal
+  rest = restFrom (wordsOf bytes) (playersIn (wordsOf bytes)) (cells (countsIn (wordsOf bytes)))
+
+  module _ (a b : ℕ) where
+    abbrev room : Refusal
+    room = when (ltb a (playersIn (wordsOf bytes))) OutputTooShort then when (ltb b (cells (countsIn (wordsOf bytes)))) OutputTooShort then rest
+
+    pub stages : readRefusal bytes a b ≡ (opened then counted then room)
+    unfolding readRefusal wordsRefusal
+    stages =
+        let ws = wordsOf bytes in
+        let counts = each (countFault ws) (below (playersIn ws)) in
+        let many = when (ltb maxCells (cells (countsIn ws))) TooManyCells in
+        sym
+        (ap (λ (r : Refusal). opened then r) (then-assoc counts many room)
+        ∙ then-assoc (lengthRefusal bytes) (openingRefusal ws) (counts then many then room))
+
+    pub bad-opening : (e : NormalFormError) → opened ≡ some e → readRefusal bytes a b ≡ some e
+    bad-opening e h = stages ∙ rw h refl
+
+    module _ (o : opened ≡ none) where
+      pub bad-counts : (e : NormalFormError) → counted ≡ some e → readRefusal bytes a b ≡ some e
+      bad-counts e h = stages ∙ rw (o, h) refl
+
+      module _ (c : counted ≡ none) where
+        pub short-counts : a < playersIn (wordsOf bytes) → readRefusal bytes a b ≡ some OutputTooShort
+        short-counts h = stages ∙ rw (o, c, lt-ltb a (playersIn (wordsOf bytes)) h) refl
+
+        module _ (p : playersIn (wordsOf bytes) ≤ a) where
+          pub short-payoffs : b < cells (countsIn (wordsOf bytes)) → readRefusal bytes a b ≡ some OutputTooShort
+          short-payoffs h = stages ∙ rw (o, c, le-ltb a (playersIn (wordsOf bytes)) p, lt-ltb b (cells (countsIn (wordsOf bytes))) h) refl
+
+          pub room-is-rest : cells (countsIn (wordsOf bytes)) ≤ b → readRefusal bytes a b ≡ rest
+          room-is-rest h = stages ∙ rw (o, c, le-ltb a (playersIn (wordsOf bytes)) p, le-ltb b (cells (countsIn (wordsOf bytes))) h) refl
+
+-- ---- what is answered and written
+
+module _ (bytes counts : List ℕ) (payoffs : List Float) where
+  pub read-refused : (e : NormalFormError) (n : ℕ) → n ≡ numberOf e → readRefusal bytes (length counts) (length payoffs) ≡ some e
+      → (refused n ≡ readAnswer bytes counts payoffs) × ((counts ≡ readCounts bytes counts payoffs) × (payoffs ≡ readPayoffs bytes counts payoffs))
+  unfolding readAnswer readCounts readPayoffs tableOf
+  read-refused e n is h = rw (h, is) (refl, (refl, refl))
+
+  pub read-accepted : readRefusal bytes (length counts) (length payoffs) ≡ none
+      → (values (playersIn (wordsOf bytes)) ≡ readAnswer bytes counts payoffs)
+      × ((over (countsIn (wordsOf bytes)) counts ≡ readCounts bytes counts payoffs)
+      × (over (payoffsIn (wordsOf bytes)) payoffs ≡ readPayoffs bytes counts payoffs))
+  unfolding readAnswer readCounts readPayoffs tableOf
+  read-accepted h = rw h (ap (λ (n : ℕ). values n) (sym (counts-length (wordsOf bytes))), (refl, refl))

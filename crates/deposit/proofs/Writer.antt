@@ -1,0 +1,74 @@
+-- The words of a table's file, put one after the other, are the file (`file-put`); how long it is (`deposit-length`); and what the writer answers and
+-- leaves. Assumes nothing.
+use mathlib.Core.Path.{_≡_, refl, sym, ap, _∙_}
+use mathlib.Core.List.{List, [], _∷_, _++_, map, flatMap, append-assoc}
+use mathlib.Core.Option.{none, some}
+use Prim.Native.Nat.{ℕ, suc, _+_, _*_, _<_, _≤_}
+use native.Mathlib.Omega.{arith}
+use borrow.Author.Tests.{lt-ltb, le-ltb}
+use lib.ListN.{length, length-append, length-map}
+use lib.Ieee.{Float}
+use Rattle.refusal.specs.Refusal.{numberOf, _then_, when}
+use Rattle.refusal.specs.Told.{values, refused}
+use Rattle.refusal.specs.declared.NormalFormError.{NormalFormError}
+use Rattle.refusal.specs.declared.NormalFormError.the-variants.{OutputTooShort}
+use Rattle.table.specs.Checks.{tableRefusal}
+use Rattle.table.specs.Outputs.{over}
+use Rattle.words.specs.Words.{word, bytesOf, closed}
+use Rattle.words.proofs.Words.{bytes-length, closed-length}
+use Rattle.deposit.specs.Deposit.{payoffWords, deposit, fileOf}
+use Rattle.deposit.specs.Put.{wordsPut}
+use Rattle.deposit.specs.Answers.{writeAnswer, writeBytes}
+use Rattle.deposit.proofs.Puts.{put-more, put-whole, payoffs-words}
+
+module _ (counts : List ℕ) (payoffs : List Float) where
+  -- the words before the closing one
+  abbrev pub body : List ℕ
+  body = word 0 (256 + length counts) ∷ map (word 1) counts ++ flatMap payoffWords payoffs
+
+  -- how many they are
+  abbrev pub size : ℕ
+  size = 1 + length counts + 3 * length payoffs
+
+  pub body-length : length body ≡ size
+  body-length =
+      let cs : length (map (word 1) counts ++ flatMap payoffWords payoffs) ≡ length (map (word 1) counts) + length (flatMap payoffWords payoffs) =
+      length-append (map (word 1) counts) (flatMap payoffWords payoffs) in
+      omega (arith, cs, length-map counts (word 1), payoffs-words payoffs)
+
+  pub deposit-length : length (deposit counts payoffs) ≡ 4 * (size + 1)
+  unfolding deposit
+  deposit-length = omega (arith, bytes-length (closed body), closed-length body, body-length)
+
+  -- the opening word, the counts, the payoffs and the closing word, each put after the last
+  pub file-put : (bytes : List ℕ) → length (deposit counts payoffs) ≤ length bytes
+      → wordsPut (wordsPut (wordsPut (wordsPut bytes 0 (word 0 (256 + length counts) ∷ [])) 1 (map (word 1) counts)) (1 + length counts) (flatMap payoffWords payoffs)) size (word 3 size ∷ [])
+      ≡ over (deposit counts payoffs) bytes
+  unfolding deposit closed
+  file-put bytes h =
+      let o = word 0 (256 + length counts) in
+      let cs = map (word 1) counts in
+      let ps = flatMap payoffWords payoffs in
+      ap (λ (r : List ℕ). wordsPut (wordsPut r (1 + length counts) ps) size (word 3 size ∷ [])) (put-more bytes 0 1 (o ∷ []) cs refl)
+      ∙ ap (λ (r : List ℕ). wordsPut r size (word 3 size ∷ [])) (put-more bytes 0 (1 + length counts) (o ∷ cs) ps (omega (arith, length-map counts (word 1))))
+      ∙ put-more bytes 0 size body (word 3 size ∷ []) (omega (arith, body-length))
+      ∙ ap (λ (n : ℕ). wordsPut bytes 0 (body ++ (word 3 n ∷ []))) (sym body-length)
+      ∙ put-whole bytes (closed body) (omega (arith, h, bytes-length (closed body)))
+
+-- ---- what is answered and written
+
+module _ (counts : List ℕ) (payoffs : List Float) (bytes : List ℕ) where
+  pub write-refused : (e : NormalFormError) (n : ℕ) → n ≡ numberOf e → tableRefusal counts payoffs ≡ some e
+      → (refused n ≡ writeAnswer counts payoffs bytes) × (bytes ≡ writeBytes counts payoffs bytes)
+  unfolding writeAnswer writeBytes fileOf
+  write-refused e n is h = rw (h, is) (refl, refl)
+
+  module _ (fits : tableRefusal counts payoffs ≡ none) where
+    pub write-short : length bytes < length (deposit counts payoffs) → (refused 13 ≡ writeAnswer counts payoffs bytes) × (bytes ≡ writeBytes counts payoffs bytes)
+    unfolding writeAnswer writeBytes fileOf
+    write-short h = rw (fits, lt-ltb (length bytes) (length (deposit counts payoffs)) h) (refl, refl)
+
+    pub write-accepted : length (deposit counts payoffs) ≤ length bytes
+        → (values (length (deposit counts payoffs)) ≡ writeAnswer counts payoffs bytes) × (over (deposit counts payoffs) bytes ≡ writeBytes counts payoffs bytes)
+    unfolding writeAnswer writeBytes fileOf
+    write-accepted h = rw (fits, le-ltb (length bytes) (length (deposit counts payoffs)) h) (refl, refl)

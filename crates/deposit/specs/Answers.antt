@@ -1,0 +1,45 @@
+-- What the reader and the writer answer, and what their outputs hold afterwards: the definitions that the contracts name. Assumes nothing.
+use mathlib.Core.List.{List, []}
+use Prim.Native.Nat.{ℕ}
+use lib.ListN.{length}
+use lib.Ieee.{Float}
+use Rattle.refusal.specs.Told.{Told, values, refused}
+use Rattle.table.specs.Outputs.{over}
+use Rattle.deposit.specs.Deposit.{fileOf, tableOf}
+
+module _ {A : Type 0} where
+  -- what is told of the value, or the same refusal
+  abbrev pub toldOf : {B : Type 0} → (A → B) → Told A → Told B
+  toldOf f (values v) = values (f v)
+  toldOf f (refused e) = refused e
+
+  -- what is written of the value: nothing where it is refused
+  abbrev pub writtenOf : {B : Type 0} → (A → List B) → Told A → List B
+  writtenOf f (values v) = f v
+  writtenOf f (refused e) = []
+
+-- ---- the reader: from the file's bytes, and what the two outputs held
+
+module _ (bytes counts : List ℕ) (payoffs : List Float) where
+  -- P, which is the number of counts
+  unfoldable pub readAnswer : Told ℕ
+  readAnswer = toldOf (λ t. length (t .0)) (tableOf bytes (length counts) (length payoffs))
+
+  -- the output for the counts
+  unfoldable pub readCounts : List ℕ
+  readCounts = over (writtenOf (λ t. t .0) (tableOf bytes (length counts) (length payoffs))) counts
+
+  -- the output for the payoffs
+  unfoldable pub readPayoffs : List Float
+  readPayoffs = over (writtenOf (λ t. t .1) (tableOf bytes (length counts) (length payoffs))) payoffs
+
+-- ---- the writer: from the table, and what the output held
+
+module _ (counts : List ℕ) (payoffs : List Float) (bytes : List ℕ) where
+  -- the number of bytes written
+  unfoldable pub writeAnswer : Told ℕ
+  writeAnswer = toldOf length (fileOf counts payoffs (length bytes))
+
+  -- the output
+  unfoldable pub writeBytes : List ℕ
+  writeBytes = over (writtenOf (λ file. file) (fileOf counts payoffs (length bytes))) bytes

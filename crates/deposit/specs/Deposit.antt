@@ -1,0 +1,100 @@
+-- Document 01, "The deposit file", on the words of `words`: from a table to bytes, and from bytes to a table or a refusal. Deposit is its term.
+-- Assumes nothing.
+use mathlib.Core.Bool.{not}
+use mathlib.Core.List.{List, [], _∷_, _++_, map, flatMap}
+use Prim.Native.Nat.{ℕ, _+_, _*_, _/_, _%_, _^_}
+use lib.Dec.{ltb, eqb}
+use lib.ListN.{length}
+use lib.Ieee.{Float, binary64, ofBits, toBits}
+use Rattle.game.specs.Finite.{below}
+use Rattle.refusal.specs.Refusal.{Refusal, when, _then_, each}
+use Rattle.refusal.specs.Told.{Told, unless}
+use Rattle.refusal.specs.declared.NormalFormError.the-variants.{NoPlayers, TooManyPlayers, TooManyCells, NonFiniteUtility, OutputTooShort, WrongPayload}
+use Rattle.utility.specs.Order.{finite}
+use Rattle.table.specs.Limits.{maxPlayers, maxCells}
+use Rattle.table.specs.Table.{cells}
+use Rattle.table.specs.Checks.{countRefusal, tableRefusal}
+use Rattle.words.specs.Words.{word, payloadAt, bytesOf, closed, wordsOf}
+use Rattle.words.specs.Faults.{lengthRefusal, dueRefusal, closingRefusal}
+
+-- ---- from a table to bytes
+
+-- kind 2, three per cell: the f64's top 4 bits, next 30, last 30
+unfoldable pub payoffWords : Float → List ℕ
+payoffWords x = let b = toBits binary64 x in word 2 (b / 2 ^ 60) ∷ word 2 (b / 2 ^ 30 % 2 ^ 30) ∷ word 2 (b % 2 ^ 30) ∷ []
+
+-- kind 0 opens: 256 + P (edition 1); kind 1, one per player: the count; the cells in cell order; and the closing word
+unfoldable pub deposit : List ℕ → List Float → List ℕ
+deposit counts payoffs = bytesOf (closed (word 0 (256 + length counts) ∷ map (word 1) counts ++ flatMap payoffWords payoffs))
+
+-- its bytes, or 1 to 7, then 13 where the output has fewer than it needs
+unfoldable pub fileOf : List ℕ → List Float → ℕ → Told (List ℕ)
+fileOf counts payoffs room =
+    let file = deposit counts payoffs in
+    unless (tableRefusal counts payoffs then when (ltb room (length file)) OutputTooShort) file
+
+-- ---- from bytes to a table
+
+module _ (ws : List ℕ) where
+  -- the opening payload's remainder by 256 is P
+  unfoldable pub playersIn : ℕ
+  playersIn = payloadAt ws 0 % 256
+
+  -- the counts, each the payload of its word
+  unfoldable pub countsIn : List ℕ
+  countsIn = map (λ p. payloadAt ws (1 + p)) (below playersIn)
+
+  -- how many words stand before those of the i-th cell
+  abbrev pub cellPlace : ℕ → ℕ
+  cellPlace i = 1 + playersIn + 3 * i
+
+  -- the f64 of the three payloads from a place on
+  unfoldable pub payoffIn : ℕ → Float
+  payoffIn place = ofBits binary64 (payloadAt ws place * 2 ^ 60 + payloadAt ws (place + 1) * 2 ^ 30 + payloadAt ws (place + 2))
+
+  -- the payoffs, in cell order
+  unfoldable pub payoffsIn : List Float
+  payoffsIn = map (λ i. payoffIn (cellPlace i)) (below (cells countsIn))
+
+  -- ---- its faults
+
+  -- the opening word: its payload divided by 256 isn't 1 (19), P is 0 (1), P over 8 (2)
+  unfoldable pub openingRefusal : Refusal
+  openingRefusal =
+      dueRefusal ws 0 0
+      then when (not (eqb (payloadAt ws 0 / 256) 1)) WrongPayload
+      then when (eqb playersIn 0) NoPlayers
+      then when (ltb maxPlayers playersIn) TooManyPlayers
+
+  -- player p's count word: 3 or 4
+  unfoldable pub countFault : ℕ → Refusal
+  countFault p = dueRefusal ws (1 + p) 1 then countRefusal (payloadAt ws (1 + p))
+
+  -- a cell's three words, from a place on: the first payload over 15 (19), and after the third word a NaN or an infinity (7)
+  unfoldable pub cellFault : ℕ → Refusal
+  cellFault place =
+      dueRefusal ws place 2
+      then when (ltb 15 (payloadAt ws place)) WrongPayload
+      then dueRefusal ws (place + 1) 2
+      then dueRefusal ws (place + 2) 2
+      then when (not (finite (payoffIn place))) NonFiniteUtility
+
+  -- left to right: the opening word, the counts, then 5, then 13 when either output is short, the cells, the closing word
+  unfoldable pub wordsRefusal : ℕ → ℕ → Refusal
+  wordsRefusal room room′ =
+      let n = cells countsIn in
+      openingRefusal
+      then each countFault (below playersIn)
+      then when (ltb maxCells n) TooManyCells
+      then when (ltb room playersIn) OutputTooShort
+      then when (ltb room′ n) OutputTooShort
+      then each (λ i. cellFault (cellPlace i)) (below n)
+      then closingRefusal ws (cellPlace n)
+
+-- the length first, then the words
+unfoldable pub readRefusal : List ℕ → ℕ → ℕ → Refusal
+readRefusal bytes room room′ = lengthRefusal bytes then wordsRefusal (wordsOf bytes) room room′
+
+-- the table of a file, or its first fault; there is room for so many counts and so many payoffs
+unfoldable pub tableOf : List ℕ → ℕ → ℕ → Told (List ℕ × List Float)
+tableOf bytes room room′ = let ws = wordsOf bytes in unless (readRefusal bytes room room′) (countsIn ws, payoffsIn ws)
