@@ -5,3 +5,5 @@ pub mod Tables
 pub mod Reader
 pub mod Puts
 pub mod Writer
+pub mod Places
+pub mod Back

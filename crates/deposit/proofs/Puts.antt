@@ -69,7 +69,7 @@ counts-more bytes counts p h =
     put-more bytes 1 (1 + p) (map (word 1) (take p counts)) (word 1 (getD counts p 0) ∷ []) (omega (arith, size))
     ∙ ap (λ (r : List ℕ). wordsPut bytes 1 r) (sym (rw (add-one p, take-suc counts p 0 h) (map-append (word 1) (take p counts) (getD counts p 0 ∷ []))))
 
-words-three : (x : Float) → length (payoffWords x) ≡ 3
+pub words-three : (x : Float) → length (payoffWords x) ≡ 3
 unfolding payoffWords
 words-three x = refl
 

@@ -4,7 +4,7 @@ use mathlib.Core.Path.{_≡_, refl, sym, ap, _∙_}
 use mathlib.Core.List.{List}
 use mathlib.Core.Option.{none, some}
 use Prim.Native.Nat.{ℕ, _+_, _*_, _<_, _≤_}
-use borrow.Author.Tests.{lt-ltb, le-ltb}
+use borrow.Author.Tests.{lt-ltb, le-ltb, ltb-false}
 use lib.Dec.{ltb}
 use lib.ListN.{length}
 use lib.Ieee.{Float}
@@ -13,6 +13,7 @@ use Rattle.refusal.specs.Refusal.{Refusal, numberOf, when, _then_, each}
 use Rattle.refusal.specs.Told.{values, refused}
 use Rattle.refusal.specs.declared.NormalFormError.{NormalFormError}
 use Rattle.refusal.specs.declared.NormalFormError.the-variants.{TooManyCells, OutputTooShort}
+use Rattle.refusal.proofs.Refusal.{when-none, then-none}
 use Rattle.table.specs.Limits.{maxCells}
 use Rattle.table.specs.Table.{cells}
 use Rattle.table.specs.Outputs.{over}
@@ -71,6 +72,18 @@ module _ (bytes : List ℕ) where
 
           pub room-is-rest : cells (countsIn (wordsOf bytes)) ≤ b → readRefusal bytes a b ≡ rest
           room-is-rest h = stages ∙ rw (o, c, le-ltb a (playersIn (wordsOf bytes)) p, le-ltb b (cells (countsIn (wordsOf bytes))) h) refl
+
+    -- no stage refuses where none is given
+    pub stages-none : readRefusal bytes a b ≡ none
+        → (opened ≡ none) × (counted ≡ none) × (playersIn (wordsOf bytes) ≤ a) × (cells (countsIn (wordsOf bytes)) ≤ b) × (rest ≡ none)
+    stages-none h =
+        let p = playersIn (wordsOf bytes) in
+        let n = cells (countsIn (wordsOf bytes)) in
+        let (o, r) = then-none opened (counted then room) .0 (sym stages ∙ h) in
+        let (c, s) = then-none counted room .0 r in
+        let (d, t) = then-none (when (ltb a p) OutputTooShort) (when (ltb b n) OutputTooShort then rest) .0 s in
+        let (e, u) = then-none (when (ltb b n) OutputTooShort) rest .0 t in
+        (o, c, ltb-false a p (when-none (ltb a p) OutputTooShort .0 d), ltb-false b n (when-none (ltb b n) OutputTooShort .0 e), u)
 
 -- ---- what is answered and written
 

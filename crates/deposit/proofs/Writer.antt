@@ -19,6 +19,7 @@ use Rattle.words.proofs.Words.{bytes-length, closed-length}
 use Rattle.deposit.specs.Deposit.{payoffWords, deposit, fileOf}
 use Rattle.deposit.specs.Put.{wordsPut}
 use Rattle.deposit.specs.Answers.{writeAnswer, writeBytes}
+use Rattle.deposit.specs.Meaning.{wordsBefore}
 use Rattle.deposit.proofs.Puts.{put-more, put-whole, payoffs-words}
 
 module _ (counts : List ℕ) (payoffs : List Float) where
@@ -26,32 +27,28 @@ module _ (counts : List ℕ) (payoffs : List Float) where
   abbrev pub body : List ℕ
   body = word 0 (256 + length counts) ∷ map (word 1) counts ++ flatMap payoffWords payoffs
 
-  -- how many they are
-  abbrev pub size : ℕ
-  size = 1 + length counts + 3 * length payoffs
-
-  pub body-length : length body ≡ size
+  pub body-length : length body ≡ wordsBefore counts payoffs
   body-length =
       let cs : length (map (word 1) counts ++ flatMap payoffWords payoffs) ≡ length (map (word 1) counts) + length (flatMap payoffWords payoffs) =
       length-append (map (word 1) counts) (flatMap payoffWords payoffs) in
       omega (arith, cs, length-map counts (word 1), payoffs-words payoffs)
 
-  pub deposit-length : length (deposit counts payoffs) ≡ 4 * (size + 1)
+  pub deposit-length : length (deposit counts payoffs) ≡ 4 * (wordsBefore counts payoffs + 1)
   unfolding deposit
   deposit-length = omega (arith, bytes-length (closed body), closed-length body, body-length)
 
   -- the opening word, the counts, the payoffs and the closing word, each put after the last
   pub file-put : (bytes : List ℕ) → length (deposit counts payoffs) ≤ length bytes
-      → wordsPut (wordsPut (wordsPut (wordsPut bytes 0 (word 0 (256 + length counts) ∷ [])) 1 (map (word 1) counts)) (1 + length counts) (flatMap payoffWords payoffs)) size (word 3 size ∷ [])
+      → wordsPut (wordsPut (wordsPut (wordsPut bytes 0 (word 0 (256 + length counts) ∷ [])) 1 (map (word 1) counts)) (1 + length counts) (flatMap payoffWords payoffs)) (wordsBefore counts payoffs) (word 3 (wordsBefore counts payoffs) ∷ [])
       ≡ over (deposit counts payoffs) bytes
   unfolding deposit closed
   file-put bytes h =
       let o = word 0 (256 + length counts) in
       let cs = map (word 1) counts in
       let ps = flatMap payoffWords payoffs in
-      ap (λ (r : List ℕ). wordsPut (wordsPut r (1 + length counts) ps) size (word 3 size ∷ [])) (put-more bytes 0 1 (o ∷ []) cs refl)
-      ∙ ap (λ (r : List ℕ). wordsPut r size (word 3 size ∷ [])) (put-more bytes 0 (1 + length counts) (o ∷ cs) ps (omega (arith, length-map counts (word 1))))
-      ∙ put-more bytes 0 size body (word 3 size ∷ []) (omega (arith, body-length))
+      ap (λ (r : List ℕ). wordsPut (wordsPut r (1 + length counts) ps) (wordsBefore counts payoffs) (word 3 (wordsBefore counts payoffs) ∷ [])) (put-more bytes 0 1 (o ∷ []) cs refl)
+      ∙ ap (λ (r : List ℕ). wordsPut r (wordsBefore counts payoffs) (word 3 (wordsBefore counts payoffs) ∷ [])) (put-more bytes 0 (1 + length counts) (o ∷ cs) ps (omega (arith, length-map counts (word 1))))
+      ∙ put-more bytes 0 (wordsBefore counts payoffs) body (word 3 (wordsBefore counts payoffs) ∷ []) (omega (arith, body-length))
       ∙ ap (λ (n : ℕ). wordsPut bytes 0 (body ++ (word 3 n ∷ []))) (sym body-length)
       ∙ put-whole bytes (closed body) (omega (arith, h, bytes-length (closed body)))
 

@@ -12,7 +12,7 @@ use lib.Seq.{ext-getD, getD-append-seam}
 use Rattle.game.specs.Finite.{below, sum}
 use Rattle.game.proofs.Finite.{length-below, length-flatMap, sum-equal}
 use Rattle.table.proofs.Offsets.{getD-map, getD-flatMap, getD-below}
-use Rattle.words.specs.Words.{word, kindOf, payloadOf, payloadAt, wordBytes, bytesOf, closed, wordAt, wordsOf}
+use Rattle.words.specs.Words.{word, kindOf, payloadOf, payloadAt, wordBytes, bytesOf, closed, wordAt, wordsOf, Bytes}
 
 -- ---- a word's kind and payload
 
@@ -92,10 +92,6 @@ words-back ws = ext-getD 0 (wordsOf (bytesOf ws)) ws size (λ i h. words-at (byt
   where
     size : length (wordsOf (bytesOf ws)) ≡ length ws
     size = words-length (bytesOf ws) ∙ ap (λ n. n / 4) (bytes-length ws) ∙ quarter (length ws)
-
--- every byte is one
-abbrev pub Bytes : List ℕ → Type 0
-Bytes bytes = (i : ℕ) → getD bytes i 0 < 256
 
 module _ (a b c d : ℕ) (A : a < 256) (B : b < 256) (C : c < 256) (D : d < 256) where
   -- the bytes of the word of four bytes

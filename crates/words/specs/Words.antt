@@ -1,7 +1,7 @@
 -- Document 01, "The deposit file": big-endian 32-bit words; the top 2 bits are the kind, 30 bits the payload. Kind and payload are its terms.
 -- A file of words is here the list of its words. Assumes nothing.
 use mathlib.Core.List.{List, [], _∷_, _++_, map, flatMap}
-use Prim.Native.Nat.{ℕ, _+_, _*_, _/_, _%_, _^_}
+use Prim.Native.Nat.{ℕ, _+_, _*_, _/_, _%_, _^_, _<_}
 use lib.ListN.{length, getD}
 use Rattle.game.specs.Finite.{below}
 
@@ -38,6 +38,10 @@ unfoldable pub closed : List ℕ → List ℕ
 closed ws = ws ++ (word 3 (length ws) ∷ [])
 
 -- ---- from bytes to words
+
+-- each byte is below 256, as the elements of a slice of bytes are
+abbrev pub Bytes : List ℕ → Type 0
+Bytes bytes = (i : ℕ) → getD bytes i 0 < 256
 
 -- the word of the four bytes from 4 × i on
 unfoldable pub wordAt : List ℕ → ℕ → ℕ

@@ -16,8 +16,9 @@ use Rattle.table.proofs.Table.{TableTold, table-told}
 use Rattle.words.specs.Words.{word}
 use Rattle.deposit.specs.Deposit.{payoffWords, deposit}
 use Rattle.deposit.specs.Put.{wordsPut}
+use Rattle.deposit.specs.Meaning.{wordsBefore}
 use Rattle.deposit.proofs.Puts.{put-length}
-use Rattle.deposit.proofs.Writer.{size, deposit-length, file-put, write-refused, write-short, write-accepted}
+use Rattle.deposit.proofs.Writer.{deposit-length, file-put, write-refused, write-short, write-accepted}
 use Rattle.deposit.proofs.write.Statement.{statement}
 use Rattle.deposit.proofs.write.Tie as tie
 
@@ -54,7 +55,7 @@ module _ (c : tie.After-enum-told) where
   few : (length (counts start) ≤ 8) × (length (payoffs start) ≤ maxCells)
   few = (told .table .shape .few, omega (arith, told .table .full, told .table .shape .room))
 
-  long : length (deposit (counts start) (payoffs start)) ≡ 4 * (size (counts start) (payoffs start) + 1)
+  long : length (deposit (counts start) (payoffs start)) ≡ 4 * (wordsBefore (counts start) (payoffs start) + 1)
   long = deposit-length (counts start) (payoffs start)
 
 add-start : tie.Need-add-start
@@ -153,7 +154,7 @@ returns-3 c =
     let u = start-of i in
     let s = start u in
     let p = 1 + length (counts s) in
-    let n = size (counts s) (payoffs s) in
+    let n = wordsBefore (counts s) (payoffs s) in
     let fits : length (deposit (counts s) (payoffs s)) ≤ length (bytes s) = omega (arith, long u, k .before .before .if1 .left) in
     let t = write-accepted (counts s) (payoffs s) (bytes s) (told u .none-applies) fits in (
       ap (λ (m : ℕ). values m) (sym (long u)) ∙ t .0,
