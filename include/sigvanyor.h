@@ -19,6 +19,11 @@
  *   14  a strategy is not below its player's count, or struck
  *   15  no survivor strictly dominates the strategy
  *   13  an output is shorter than the result needs
+ * The reader of deposit files has an order of its own, see sigvanyor_read, and four more:
+ *   17  the number of bytes is no multiple of 4, or a word that is due is absent
+ *   18  a word's kind is not the one due
+ *   19  a word's payload is wrong
+ *   20  a word follows the closing one
  * Values come through the pointers at the end of a call's parameters; a strike also changes the marks that it is given. A refused call
  * writes nothing. Where an output is a slice, elements past those written keep their contents.
  *
@@ -54,6 +59,7 @@ enum {
     SIGVANYOR_MAX_STRATEGIES = 64,
     SIGVANYOR_MAX_CELLS = 65536,
     SIGVANYOR_MAX_MARKS = SIGVANYOR_MAX_PLAYERS * SIGVANYOR_MAX_STRATEGIES,
+    SIGVANYOR_MAX_FILE = 4 * (2 + SIGVANYOR_MAX_PLAYERS + 3 * SIGVANYOR_MAX_CELLS),
     SIGVANYOR_MAX_ACTIONS = 64
 };
 
@@ -151,6 +157,23 @@ uint32_t sigvanyor_strikes(const size_t *counts, size_t counts_len, const double
                            uint32_t *answers, size_t answers_len, size_t *dominators, size_t dominators_len, size_t *number,
                            size_t *survivors_players, size_t survivors_counts[SIGVANYOR_MAX_PLAYERS],
                            uint8_t survivors_marks[SIGVANYOR_MAX_MARKS]);
+
+/* A deposit file: a table as big-endian 32-bit words. The top 2 bits of a word are its kind, the other 30 its payload. Kind 0 opens the
+ * file: 256 + P. Kind 1, one for each player: its count. Kind 2, three for each payoff in order: its bits' top 4, next 30 and last 30.
+ * Kind 3 closes it: the number of words before it. So a file has 4 x (2 + P + 3 x profiles x P) bytes, at most
+ * SIGVANYOR_MAX_FILE. What sigvanyor_write writes, sigvanyor_read gives back, bits and all, and the other way round. */
+
+/* Reads a deposit file: its counts into `counts`, its payoffs into `payoffs`, and P into `players`; or the first fault from left to right,
+ * and nothing is written. A number of bytes that is no multiple of 4 is 17. Then, word by word: absent is 17, of another kind 18. Then
+ * its payload: an opening one that is not 256 to 511 is 19, and gives 1 or 2 for its P; a count gives 3 or 4; after the counts comes 5,
+ * then 13; a payoff's first part over 15 is 19, and after its third a NaN or an infinity is 7; a wrong closing number is 19; a word after
+ * it is 20. */
+uint32_t sigvanyor_read(const uint8_t *bytes, size_t bytes_len, size_t *counts, size_t counts_len, double *payoffs, size_t payoffs_len,
+                        size_t *players);
+
+/* Writes the table's deposit file into `bytes`, and the number of its bytes into `number`; or 1 to 7, 13. */
+uint32_t sigvanyor_write(const size_t *counts, size_t counts_len, const double *payoffs, size_t payoffs_len,
+                         uint8_t *bytes, size_t bytes_len, size_t *number);
 
 /* The most that a player gains by another action in place of one, under the weights that someone claims to be a correlated
  * equilibrium: for each two rows i and k the sum, from 0.0 and over the columns ascending, of weights(i,j) x (u1(k,j) - u1(i,j)),

@@ -26,6 +26,7 @@ ghost use Rattle.pure_nash.specs.Answers.{isEquilibriumAnswer, countAnswer, equ
 ghost use Rattle.strict_dominance.specs.Answers.{strategiesOf, dominatorsOf, dominatedAnswer, dominatedWritten};
 ghost use Rattle.survivors.specs.Survivors.{freshOf};
 ghost use Rattle.survivors.specs.Answers.{strikeAnswer, strikeLeaves, survivingAnswer, survivingChoices, survivingUtilities, callsOf, dominatorOf, strikesAnswer, strikesLeave, strikesWritten};
+ghost use Rattle.deposit.specs.Answers.{readAnswer, readCounts, readPayoffs, writeAnswer, writeBytes};
 ghost use Rattle.candidates.specs.Checks.{incentives, verdictOf, minimax};
 ghost use Rattle.c_outputs.specs.Status.{output, beside, partStart, partLength, survivorsOf, markBytes};
 
@@ -361,6 +362,39 @@ pub extern "C" fn sigvanyor_strikes(
         }
         UsizeResult::Err(e) => e.number(),
     }
+}
+
+// `read`: the counts and the payoffs of a deposit file into `counts` and `payoffs`, and P into `players`, or 17 to 20, 1 to 5, 7, 13.
+#[no_mangle]
+pub extern "C" fn sigvanyor_read(
+    bytes: &[u8],
+    counts: &mut [usize],
+    payoffs: &mut [f64],
+    players: &mut usize,
+) -> u32
+    ensures { λ r. ⌜ r ≡ status (readAnswer (now (bytes .entry)) (now (counts .entry)) (now (payoffs .entry))) ⌝ }
+    ensures { λ r. ⌜ now (players .exit) ≡ output (readAnswer (now (bytes .entry)) (now (counts .entry)) (now (payoffs .entry))) (now (players .entry)) ⌝ }
+    ensures { λ r. ⌜ now (counts .exit) ≡ readCounts (now (bytes .entry)) (now (counts .entry)) (now (payoffs .entry)) ⌝ }
+    ensures { λ r. ⌜ now (payoffs .exit) ≡ readPayoffs (now (bytes .entry)) (now (counts .entry)) (now (payoffs .entry)) ⌝ }
+{
+    let answer = deposit::read(bytes, counts, payoffs);
+    c_outputs::usize_into(answer, players)
+}
+
+// `write`: the deposit file of a table into `bytes`, and the number of its bytes into `number`, or 1 to 7, 13.
+#[no_mangle]
+pub extern "C" fn sigvanyor_write(
+    counts: &[usize],
+    payoffs: &[f64],
+    bytes: &mut [u8],
+    number: &mut usize,
+) -> u32
+    ensures { λ r. ⌜ r ≡ status (writeAnswer (now (counts .entry)) (now (payoffs .entry)) (now (bytes .entry))) ⌝ }
+    ensures { λ r. ⌜ now (number .exit) ≡ output (writeAnswer (now (counts .entry)) (now (payoffs .entry)) (now (bytes .entry))) (now (number .entry)) ⌝ }
+    ensures { λ r. ⌜ now (bytes .exit) ≡ writeBytes (now (counts .entry)) (now (payoffs .entry)) (now (bytes .entry)) ⌝ }
+{
+    let answer = deposit::write(counts, payoffs, bytes);
+    c_outputs::usize_into(answer, number)
 }
 
 // `verify_correlated_equilibrium_incentives`: the greatest gain, or infinity.
