@@ -1,0 +1,2 @@
+-- What is left to say between two calls.
+mod Calls

@@ -1,0 +1,110 @@
+// Reading and writing undo each other, as statements about the calls that run: the contracts of `write_read` and `read_write` say so for every
+// table, every file and all outputs, and both run on the prisoner's dilemma and on a table with both zeros. One line each: the answer, then what
+// came back.
+use cases::floats;
+use cases::number;
+use cases::numbers;
+use cases::text;
+use cases::told_usize;
+use refusal::UsizeResult;
+ghost use mathlib.Core.Path.{_≡_};
+ghost use lib.ListN.{length};
+ghost use Rattle.refusal.specs.Told.{toldUsize};
+ghost use Rattle.table.specs.Outputs.{over};
+ghost use Rattle.deposit.specs.Answers.{toldOf, writtenOf, readCounts, readPayoffs, writeBytes};
+ghost use Rattle.round_trips.specs.RoundTrips.{writtenRead, readWritten};
+
+// A call of `write`, and then one of `read` on what it wrote: the table comes back.
+fn write_read(
+    counts: &[usize],
+    payoffs: &[f64],
+    bytes: &mut [u8],
+    counts_back: &mut [usize],
+    payoffs_back: &mut [f64],
+) -> UsizeResult
+    ensures { λ r. ⌜ toldUsize r ≡ toldOf (λ t. length (t .0)) (writtenRead (now (counts .entry)) (now (payoffs .entry)) (length (now (bytes .entry))) (length (now («counts_back» .entry))) (length (now («payoffs_back» .entry)))) ⌝ }
+    ensures { λ _. ⌜ now («counts_back» .exit) ≡ over (writtenOf (λ t. t .0) (writtenRead (now (counts .entry)) (now (payoffs .entry)) (length (now (bytes .entry))) (length (now («counts_back» .entry))) (length (now («payoffs_back» .entry))))) (now («counts_back» .entry)) ⌝ }
+    ensures { λ _. ⌜ now («payoffs_back» .exit) ≡ over (writtenOf (λ t. t .1) (writtenRead (now (counts .entry)) (now (payoffs .entry)) (length (now (bytes .entry))) (length (now («counts_back» .entry))) (length (now («payoffs_back» .entry))))) (now («payoffs_back» .entry)) ⌝ }
+    ensures { λ _. ⌜ now (bytes .exit) ≡ writeBytes (now (counts .entry)) (now (payoffs .entry)) (now (bytes .entry)) ⌝ }
+{
+    match deposit::write(counts, payoffs, bytes) {
+        UsizeResult::Err(e) => UsizeResult::Err(e),
+        UsizeResult::Ok(n) => deposit::read(&bytes[0..n], counts_back, payoffs_back),
+    }
+}
+
+// A call of `read`, and then one of `write` on what it read: the bytes come back.
+fn read_write(
+    bytes: &[u8],
+    counts: &mut [usize],
+    payoffs: &mut [f64],
+    bytes_back: &mut [u8],
+) -> UsizeResult
+    ensures { λ r. ⌜ toldUsize r ≡ toldOf length (readWritten (now (bytes .entry)) (length (now (counts .entry))) (length (now (payoffs .entry))) (length (now («bytes_back» .entry)))) ⌝ }
+    ensures { λ _. ⌜ now («bytes_back» .exit) ≡ over (writtenOf (λ b. b) (readWritten (now (bytes .entry)) (length (now (counts .entry))) (length (now (payoffs .entry))) (length (now («bytes_back» .entry))))) (now («bytes_back» .entry)) ⌝ }
+    ensures { λ _. ⌜ now (counts .exit) ≡ readCounts (now (bytes .entry)) (now (counts .entry)) (now (payoffs .entry)) ⌝ }
+    ensures { λ _. ⌜ now (payoffs .exit) ≡ readPayoffs (now (bytes .entry)) (now (counts .entry)) (now (payoffs .entry)) ⌝ }
+{
+    match deposit::read(bytes, counts, payoffs) {
+        UsizeResult::Err(e) => UsizeResult::Err(e),
+        UsizeResult::Ok(players) => match table::profile_count(&counts[0..players]) {
+            UsizeResult::Err(e) => UsizeResult::Err(e),
+            UsizeResult::Ok(profiles) => deposit::write(
+                &counts[0..players],
+                &payoffs[0..profiles * players],
+                bytes_back,
+            ),
+        },
+    }
+}
+
+// Each of the bytes.
+fn all_bytes(bytes: &[u8]) {
+    let mut i = 0;
+    while i < bytes.len() {
+        number(bytes[i] as usize);
+        i += 1;
+    }
+}
+
+fn main() {
+    let counts = [2usize; 2];
+    let payoffs = [2.0, 2.0, 0.0, 3.0, 3.0, 0.0, 1.0, 1.0];
+    let mut file = [0u8; 112];
+    let mut counts_back = [7usize; 3];
+    let mut payoffs_back = [7.0; 9];
+    text(b"dilemma:");
+    told_usize(write_read(
+        &counts,
+        &payoffs,
+        &mut file,
+        &mut counts_back,
+        &mut payoffs_back,
+    ));
+    numbers(&counts_back);
+    floats(&payoffs_back);
+    text(b"\n");
+    let mut file_back = [7u8; 113];
+    text(b"its file:");
+    told_usize(read_write(&file, &mut counts_back, &mut payoffs_back, &mut file_back));
+    all_bytes(&file_back);
+    text(b"\n");
+    let one = [2usize; 1];
+    let zeros = [-0.0, 0.0];
+    let mut small = [0u8; 36];
+    text(b"both zeros:");
+    told_usize(write_read(
+        &one,
+        &zeros,
+        &mut small,
+        &mut counts_back,
+        &mut payoffs_back,
+    ));
+    numbers(&counts_back);
+    floats(&payoffs_back);
+    text(b"\n");
+    text(b"its file:");
+    told_usize(read_write(&small, &mut counts_back, &mut payoffs_back, &mut file_back));
+    all_bytes(&file_back);
+    text(b"\n");
+}
