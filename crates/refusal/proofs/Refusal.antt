@@ -1,5 +1,5 @@
--- What the refusals' definitions mean: every refusal has a number of its own, `when` and `_then_` in quantifiers, and `each` over the
--- players 0 to n - 1. Assumes nothing.
+-- What the refusals' definitions mean: every refusal has a number of its own, `when` and `_then_` in quantifiers, and `each` over 0 to
+-- n - 1. Assumes nothing.
 use mathlib.Core.Path.{_≡_, refl, sym, ap, _∙_}
 use mathlib.Core.Bool.{Bool, true, false, true≢false}
 use mathlib.Core.List.{List, [], _∷_, map}
@@ -81,13 +81,22 @@ pub then-some : (a b : Refusal) (e : NormalFormError) → ((a then b) ≡ some e
 then-some none b e = (λ h. inr (refl, h), λ h. elim h [ inl g ↦ absurd (some-none e (sym g)) | inr g ↦ g .1 ])
 then-some (some d) b e = (λ h. inl h, λ h. elim h [ inl g ↦ g | inr g ↦ absurd (some-none d (g .0)) ])
 
--- ---- player by player
+-- refusals in a row may be taken together
+pub then-assoc : (a b c : Refusal) → ((a then b) then c) ≡ (a then b then c)
+then-assoc none b c = refl
+then-assoc (some e) b c = refl
+
+pub then-last : (a : Refusal) → (a then none) ≡ a
+then-last none = refl
+then-last (some e) = refl
+
+-- ---- one after the other
 
 each-map : (f : ℕ → Refusal) (ps : List ℕ) → each f (map suc ps) ≡ each (λ p. f (suc p)) ps
 each-map f [] = refl
 each-map f (p ∷ ps) = ap (λ r. f (suc p) then r) (each-map f ps)
 
--- `each f (below n)` is none exactly where f is none at every player below n
+-- `each f (below n)` is none exactly where f is none at every number below n
 pub each-none : (n : ℕ) (f : ℕ → Refusal) → ((p : ℕ) → p < n → f p ≡ none) → each f (below n) ≡ none
 each-none zero f h = refl
 each-none (suc n) f h =
@@ -100,7 +109,7 @@ none-each (suc n) f h zero l = then-none (f 0) (each f (map suc (below n))) .0 h
 none-each (suc n) f h (suc p) l =
     none-each n (λ q. f (suc q)) (sym (each-map f (below n)) ∙ then-none (f 0) (each f (map suc (below n))) .0 h .1) p (le-of-suc-le-suc l)
 
--- and it is the refusal at the first player that has one
+-- and it is the refusal at the first number that has one
 pub each-some : (n : ℕ) (f : ℕ → Refusal) (p : ℕ) (e : NormalFormError)
     → p < n → ((q : ℕ) → q < p → f q ≡ none) → f p ≡ some e → each f (below n) ≡ some e
 each-some zero f p e l h g = absurd (not-suc-le-zero l)

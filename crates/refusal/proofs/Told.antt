@@ -8,7 +8,7 @@ use native.Mathlib.Omega.{arith}
 use lib.Dec.{T}
 use Rattle.refusal.specs.Refusal.{Refusal, numberOf, _then_}
 use Rattle.refusal.specs.declared.NormalFormError.{NormalFormError}
-use Rattle.refusal.specs.Told.{values, refused, unless, status, tells, toldUnit, toldUsize, toldBool}
+use Rattle.refusal.specs.Told.{values, refused, unless, toldOf, status, tells, toldUnit, toldUsize, toldBool}
 use Rattle.refusal.specs.declared.UnitResult.{UnitResult}
 use Rattle.refusal.specs.declared.UnitResult.the-variants.{Ok as ok, Err as err}
 use Rattle.refusal.specs.declared.UsizeResult.{UsizeResult}
@@ -49,6 +49,11 @@ module _ {A : Type 0} where
   pub tells-law : (r : Refusal) (v : A) → T (tells (unless r v)) ↔ (r ≡ none)
   tells-law none v = (λ h. refl, λ h. tt)
   tells-law (some e) v = (λ h. absurd h, λ h. absurd (some-none e h))
+
+-- what is told of values is told unless the same refusal applies
+pub told-of : {A B : Type 0} (f : A → B) (r : Refusal) (v : A) → toldOf f (unless r v) ≡ unless r (f v)
+told-of f none v = refl
+told-of f (some e) v = refl
 
 -- ---- what was told determines the answer, since each refusal has a number of its own
 

@@ -66,7 +66,7 @@ abbrev pub _then_ : Refusal → Refusal → Refusal
 some e then b = some e
 none then b = b
 
--- player by player: the first refusal of f over a list of players
+-- one after the other: the first refusal of f over a list, of players or of places
 abbrev pub each : (ℕ → Refusal) → List ℕ → Refusal
 each f [] = none
 each f (p ∷ ps) = f p then each f ps

@@ -23,6 +23,11 @@ abbrev pub unless : {A : Type 0} → Refusal → A → Told A
 unless none v = values v
 unless (some e) v = refused (numberOf e)
 
+-- what is told of the values by f, or the same refusal
+abbrev pub toldOf : {A B : Type 0} → (A → B) → Told A → Told B
+toldOf f (values v) = values (f v)
+toldOf f (refused n) = refused n
+
 -- what an answer tells as one number: 0, or the refusal's
 abbrev pub status : {A : Type 0} → Told A → ℕ
 status (values v) = 0
