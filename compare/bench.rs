@@ -3,7 +3,8 @@
 use crate::candidate_cases;
 use crate::cases::{self, Random};
 use crate::document::{ACTIONS, CELLS, PLAYERS, STRATEGIES};
-use crate::library::{self, Claim, Held, Lists, StrikeLists};
+use crate::library::{self, Answer, Bits, Claim, File, Held, Listing, Lists, StrikeLists};
+use crate::plain;
 use crate::rust;
 use crate::survivors::{self, Game, Left};
 use std::hint::black_box;
@@ -49,6 +50,7 @@ pub fn bench() {
     }
     candidates(&mut random);
     eliminations(&shapes[1..], &payoffs);
+    deposits(&[8, 8, 16, 16], &payoffs);
 }
 
 fn finite(name: &str, payoffs: &[f64]) {
@@ -354,6 +356,61 @@ fn by_rust(counts: &[usize], payoffs: &[f64]) -> Left {
         let (counts, payoffs) = game.reduced(&left);
         matrix = rust::table(&counts, &payoffs).unwrap();
     }
+}
+
+/// A table's file, written and read; beside the library stands plain Rust. The outputs are there beforehand.
+fn deposits(counts: &[usize], payoffs: &[f64]) {
+    println!(
+        "\n{:<28} {:>8} {:>12} {:>12} {:>14} {:>14} {:>14}",
+        "deposit file",
+        "bytes",
+        "library, ns",
+        "Rust, ns",
+        "Rust / library",
+        "library, MB/s",
+        "Rust, MB/s"
+    );
+    let mut bytes = vec![0; 4 * (2 + counts.len() + 3 * payoffs.len())];
+    let mut file = File::fresh(bytes.len());
+    let table = || (black_box(counts), black_box(payoffs));
+    let times = best(
+        || {
+            let (counts, payoffs) = table();
+            library::write(counts, payoffs, &mut file)
+        },
+        || {
+            let (counts, payoffs) = table();
+            plain::write(counts, payoffs, black_box(&mut bytes))
+        },
+    );
+    let written = file.answer(0);
+    assert!(written == Answer::Accepted(bytes.clone()), "two files");
+    speeds("write", counts, bytes.len(), times);
+    let mut lists = Lists::fresh([counts.len(), payoffs.len()]);
+    let mut read = (vec![0; counts.len()], vec![0.0; payoffs.len()]);
+    let times = best(
+        || library::read(black_box(&bytes), &mut lists),
+        || plain::read(black_box(&bytes), &mut read.0, black_box(&mut read.1)),
+    );
+    let table = lists.answer_table(0);
+    let plain = Listing {
+        number: counts.len(),
+        first: read.0,
+        second: read.1.into_iter().map(Bits::of).collect(),
+    };
+    assert!(table == Answer::Accepted(plain), "two tables");
+    speeds("read", counts, bytes.len(), times);
+}
+
+fn speeds(call: &str, counts: &[usize], bytes: usize, (library, rust): (f64, f64)) {
+    let speed = |time: f64| 1_000.0 * bytes as f64 / time;
+    println!(
+        "{:<28} {bytes:>8} {library:>12.0} {rust:>12.0} {:>14.2} {:>14.0} {:>14.0}",
+        format!("{call}, {}", shape(counts)),
+        rust / library,
+        speed(library),
+        speed(rust)
+    );
 }
 
 fn row<A, B>(name: &str, library: impl FnMut() -> A, rust: impl FnMut() -> B) {

@@ -2,6 +2,7 @@
 
 use crate::candidates::{self, Candidates};
 use crate::cases::{self, Random};
+use crate::deposit::{self, Deposits};
 use crate::document::{self, Ground, CELLS, PLAYERS, STRATEGIES};
 use crate::library::{self, Answer, Bits};
 use crate::rust::{self, Judged};
@@ -57,6 +58,10 @@ pub fn compare() {
     let verdict = classes(&Candidates::VERDICT);
     report(candidates.verdict, &[], &[(Judge::Unasked, &verdict)]);
     report(candidates.minimax, &classes(&Candidates::MINIMAX), &others);
+    let deposits = deposit::deposits();
+    let read = Deposits::read_grounds();
+    report(deposits.read, &[], &[(Judge::Unasked, &read)]);
+    report(deposits.write, &[], &[(Judge::Unasked, &Deposits::WRITE)]);
     println!("compare: {with_rust} cases with the Rust and {with_document} with document 01 alone, 0 differences");
 }
 

@@ -115,7 +115,7 @@ fn wrong_count(counts: &[usize], payoffs: &[f64]) -> bool {
 }
 
 /// An exponent of ones is a NaN or an infinity (IEEE 754).
-fn some_non_finite(payoffs: &[f64]) -> bool {
+pub fn some_non_finite(payoffs: &[f64]) -> bool {
     payoffs
         .iter()
         .any(|payoff| payoff.to_bits() >> 52 & 0x7ff == 0x7ff)

@@ -1,5 +1,5 @@
-/* Every call of include/sigvanyor.h from C, on document 01's table of counts 2 3 4, its first game and candidates for that and for a
- * game of 1 x 2, and the header's limits: the header fits the archive. */
+/* Every call of include/sigvanyor.h from C, on document 01's table of counts 2 3 4, its first game, that one's file and candidates for it
+ * and for a game of 1 x 2, and the header's limits: the header fits the archive. */
 #include "sigvanyor.h"
 #include <stdio.h>
 
@@ -122,6 +122,34 @@ static void candidates(void) {
     expect("verify_minimax_residuals", !sigvanyor_verify_minimax_residuals(2, 1, payoffs, 2, p1, 1, p2, 2, right));
 }
 
+/* The file of the game of `solvers`, written and read back. */
+static void deposits(void) {
+    const size_t counts[] = {2, 2};
+    const double payoffs[] = {2, 2, 0, 3, 3, 0, 1, 1};
+    uint8_t bytes[113];
+    size_t written = 99, players = 99, read_counts[3] = {9, 9, 9};
+    double read_payoffs[9];
+    for (int i = 0; i < 113; i++)
+        bytes[i] = 7;
+    for (int i = 0; i < 9; i++)
+        read_payoffs[i] = -1;
+
+    expect("write", sigvanyor_write(counts, 2, payoffs, 8, bytes, 111, &written) == 13 && written == 99 && bytes[0] == 7);
+    expect("write", sigvanyor_write(counts, 2, payoffs, 8, bytes, 113, &written) == 0 && written == 112);
+    expect("write", bytes[2] == 1 && bytes[3] == 2 && bytes[4] == 64 && bytes[7] == 2 && bytes[12] == 128 && bytes[15] == 4);
+    expect("write", bytes[108] == 192 && bytes[111] == 27 && bytes[112] == 7);
+    expect("read", sigvanyor_read(bytes, 113, read_counts, 2, read_payoffs, 8, &players) == 17);
+    expect("read", sigvanyor_read(bytes, 112, read_counts, 2, read_payoffs, 7, &players) == 13);
+    bytes[111]++;
+    expect("read", sigvanyor_read(bytes, 112, read_counts, 2, read_payoffs, 8, &players) == 19);
+    expect("read", players == 99 && read_counts[0] == 9 && read_payoffs[0] == -1);
+    bytes[111]--;
+    expect("read", sigvanyor_read(bytes, 112, read_counts, 3, read_payoffs, 9, &players) == 0 && players == 2);
+    expect("read", read_counts[0] == 2 && read_counts[1] == 2 && read_counts[2] == 9 && read_payoffs[8] == -1);
+    for (int i = 0; i < 8; i++)
+        expect("read", read_payoffs[i] == payoffs[i]);
+}
+
 int main(void) {
     const size_t counts[] = {2, 3, 4}, profile[] = {1, 2, 3};
     double payoffs[72], utility = -1;
@@ -150,6 +178,7 @@ int main(void) {
     solvers();
     strikes();
     candidates();
+    deposits();
     limits();
     if (!wrong)
         printf("header: every call answers as declared\n");

@@ -1,7 +1,7 @@
 //! The library's calls behind safe functions. Every output is filled with a pattern first and stands between two
 //! guards, so that a refused call that wrote, or a call that wrote past an output, is seen.
 
-use crate::document::{PLAYERS, STRATEGIES};
+use crate::document::{self, PLAYERS, STRATEGIES};
 use std::fmt;
 use std::ops::Range;
 use std::sync::atomic::{AtomicUsize, Ordering::Relaxed};
@@ -197,6 +197,24 @@ extern "C" {
         p2_len: usize,
         claim: Claim,
     ) -> u8;
+    fn sigvanyor_read(
+        bytes: *const u8,
+        bytes_len: usize,
+        counts: *mut usize,
+        counts_len: usize,
+        payoffs: *mut f64,
+        payoffs_len: usize,
+        players: *mut usize,
+    ) -> u32;
+    fn sigvanyor_write(
+        counts: *const usize,
+        counts_len: usize,
+        payoffs: *const f64,
+        payoffs_len: usize,
+        bytes: *mut u8,
+        bytes_len: usize,
+        written: *mut usize,
+    ) -> u32;
 }
 
 /// What a minimax candidate claims.
@@ -378,6 +396,12 @@ impl Word for u32 {
     }
 }
 
+impl Word for u8 {
+    fn of(pattern: u64) -> Self {
+        (pattern >> 48) as u8
+    }
+}
+
 /// As many words as a caller likes between two guards of a profile's length, the patterns in turn.
 struct Slice<W = u64> {
     words: Vec<W>,
@@ -413,9 +437,20 @@ impl<W: Word> Slice<W> {
         self.kept(0..Self::GUARD) && self.kept(Self::GUARD + self.len()..self.words.len())
     }
 
-    /// Whether the words are untouched, but for so many at the start.
-    fn untouched_past(&self, length: usize) -> bool {
-        self.kept(Self::GUARD + length..Self::GUARD + self.len())
+    /// What is wrong with the words after a call that told that it wrote so many at the start, or was refused.
+    fn wrong(&self, status: u32, told: usize) -> Option<&'static str> {
+        let written = if status == 0 { told } else { 0 };
+        if written > self.len() {
+            Some("told more than the outputs hold")
+        } else if !self.guarded() {
+            Some("wrote past an output")
+        } else if self.kept(Self::GUARD + written..Self::GUARD + self.len()) {
+            None
+        } else if status == 0 {
+            Some("touched an element past those written")
+        } else {
+            Some("refused and wrote")
+        }
     }
 
     fn kept(&self, places: Range<usize>) -> bool {
@@ -451,37 +486,44 @@ impl Lists {
         elements: usize,
         element: impl Fn(u64) -> T,
     ) -> Answer<Listing<T>> {
-        let number = self.number.numbers()[0];
-        let room = self.first.len().min(self.second.len());
-        let written = match number.checked_mul(elements) {
-            _ if status != 0 => 0,
-            Some(written) if written <= room => written,
-            _ => return Answer::Broken("told more than the outputs hold"),
-        };
-        let rest = self.first.untouched_past(written) && self.second.untouched_past(written);
-        if status == 0 && !rest {
-            return Answer::Broken("touched an element past those written");
-        }
-        answer(
-            status,
-            self.number.guarded() && self.first.guarded() && self.second.guarded(),
-            self.number.untouched() && rest,
-            || Listing {
-                number,
-                first: self
-                    .first
-                    .first(written)
-                    .iter()
-                    .map(|word| *word as usize)
-                    .collect(),
-                second: self
-                    .second
-                    .first(written)
-                    .iter()
-                    .map(|word| element(*word))
-                    .collect(),
-            },
-        )
+        let told = self.number.numbers()[0].saturating_mul(elements);
+        self.told(status, [told; 2], element)
+    }
+
+    /// The same of a call that wrote a table: as many counts as it told, and the payoffs of their cells.
+    pub fn answer_table(&self, status: u32) -> Answer<Listing<Bits>> {
+        let players = self.number.numbers()[0];
+        let counts = self.first.first(players.min(self.first.len())).iter();
+        let counts: Vec<usize> = counts.map(|word| *word as usize).collect();
+        let cells = usize::try_from(document::cells(&counts)).unwrap_or(usize::MAX);
+        self.told(status, [players, cells], Bits)
+    }
+
+    fn told<T>(
+        &self,
+        status: u32,
+        told: [usize; 2],
+        element: impl Fn(u64) -> T,
+    ) -> Answer<Listing<T>> {
+        let outputs = [
+            self.first.wrong(status, told[0]),
+            self.second.wrong(status, told[1]),
+        ];
+        answer_slices(status, outputs, &self.number, |number| Listing {
+            number,
+            first: self
+                .first
+                .first(told[0])
+                .iter()
+                .map(|word| *word as usize)
+                .collect(),
+            second: self
+                .second
+                .first(told[1])
+                .iter()
+                .map(|word| element(*word))
+                .collect(),
+        })
     }
 }
 
@@ -534,6 +576,17 @@ impl Held {
     fn untouched(&self) -> bool {
         self.players.untouched() && self.counts.untouched() && self.marks.untouched()
     }
+
+    /// What is wrong after a call that writes all of them, or was refused.
+    fn wrong(&self, status: u32) -> Option<&'static str> {
+        if !self.guarded() {
+            Some("wrote past an output")
+        } else if status != 0 && !self.untouched() {
+            Some("refused and wrote")
+        } else {
+            None
+        }
+    }
 }
 
 fn answer<T>(status: u32, guarded: bool, untouched: bool, value: impl FnOnce() -> T) -> Answer<T> {
@@ -560,6 +613,21 @@ fn answer_number(status: u32, number: Output<1>) -> Answer<usize> {
     answer(status, number.guarded(), number.untouched(), || {
         number.numbers()[0]
     })
+}
+
+/// The answer of a call with slices, of which it is told what is wrong, and a number.
+fn answer_slices<T, const N: usize>(
+    status: u32,
+    slices: [Option<&'static str>; N],
+    number: &Output<1>,
+    value: impl FnOnce(usize) -> T,
+) -> Answer<T> {
+    match slices.into_iter().flatten().next() {
+        Some(wrong) => Answer::Broken(wrong),
+        None => answer(status, number.guarded(), number.untouched(), || {
+            value(number.numbers()[0])
+        }),
+    }
 }
 
 fn answer_space(status: u32, players: Output<1>, counts: Output<PLAYERS>) -> Answer<Space> {
@@ -874,30 +942,20 @@ impl StrikeLists {
 
     /// The answer of a call that wrote here, of so many strikes.
     fn answer(&self, status: u32, strikes: usize) -> Answer<Struck> {
-        let written = if status == 0 { strikes } else { 0 };
-        if written > self.answers.len().min(self.dominators.len()) {
-            return Answer::Broken("told more than the outputs hold");
-        }
         let outputs = [
-            self.answers.guarded() && self.dominators.guarded(),
-            self.number.guarded() && self.held.guarded(),
+            self.answers.wrong(status, strikes),
+            self.dominators.wrong(status, strikes),
+            self.held.wrong(status),
         ];
-        let rest = self.answers.untouched_past(written) && self.dominators.untouched_past(written);
-        if status == 0 && !rest {
-            return Answer::Broken("touched an element past those written");
-        }
-        let dominators = self.dominators.first(written).iter();
-        answer(
-            status,
-            outputs == [true; 2],
-            rest && self.number.untouched() && self.held.untouched(),
-            || Struck {
-                number: self.number.numbers()[0],
-                answers: self.answers.first(written).to_vec(),
+        answer_slices(status, outputs, &self.number, |number| {
+            let dominators = self.dominators.first(strikes).iter();
+            Struck {
+                number,
+                answers: self.answers.first(strikes).to_vec(),
                 dominators: dominators.map(|word| *word as usize).collect(),
                 survivors: self.survivors(),
-            },
-        )
+            }
+        })
     }
 }
 
@@ -962,4 +1020,42 @@ pub fn verify_minimax_residuals(
         claim
     );
     truth(yes, true, |yes| yes)
+}
+
+/// The table of a deposit file: P for the number, its counts and its payoffs.
+pub fn read(bytes: &[u8], lists: &mut Lists) -> u32 {
+    call!(sigvanyor_read, [bytes]; lists)
+}
+
+/// The outputs of a call that writes a deposit file: so many bytes, and how many it wrote.
+pub struct File {
+    bytes: Slice<u8>,
+    written: Output<1>,
+}
+
+impl File {
+    pub fn fresh(length: usize) -> Self {
+        Self {
+            bytes: Slice::fresh(length),
+            written: Output::fresh(),
+        }
+    }
+
+    pub fn answer(&self, status: u32) -> Answer<Vec<u8>> {
+        let told = self.written.numbers()[0];
+        let outputs = [self.bytes.wrong(status, told)];
+        answer_slices(status, outputs, &self.written, |number| {
+            self.bytes.first(number).to_vec()
+        })
+    }
+}
+
+pub fn write(counts: &[usize], payoffs: &[f64], file: &mut File) -> u32 {
+    call!(
+        sigvanyor_write,
+        [counts, payoffs],
+        file.bytes.place(),
+        file.bytes.len(),
+        file.written.place()
+    )
 }

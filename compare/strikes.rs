@@ -13,7 +13,7 @@ use crate::tally::{agreed, numbers, sure, Judge, Tally};
 use std::cell::OnceCell;
 
 /// The cases that each ground of an answer has at least.
-const LEAST: usize = 2_000;
+pub const LEAST: usize = 2_000;
 
 /// The most cells of a table that is not large.
 pub const LARGE: usize = 4_096;

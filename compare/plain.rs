@@ -1,0 +1,152 @@
+//! A reader and a writer of deposit files in plain Rust, for the times: a pass that checks and one that writes.
+
+use crate::deposit::{CELL, CLOSING, COUNT, OPENING, PAYLOADS};
+use crate::document::{CELLS, PLAYERS, STRATEGIES};
+
+/// The payload of the word at a place, which is to be of a kind.
+fn due(bytes: &[u8], place: usize, kind: u32) -> Result<u32, u32> {
+    let word = bytes.get(4 * place..4 * place + 4).ok_or(17u32)?;
+    let word = u32::from_be_bytes(word.try_into().unwrap());
+    if word >> 30 == kind {
+        Ok(word % PAYLOADS)
+    } else {
+        Err(18)
+    }
+}
+
+/// The three words of a cell.
+fn cell(bytes: &[u8]) -> [u32; 3] {
+    [0, 4, 8].map(|place| u32::from_be_bytes(bytes[place..place + 4].try_into().unwrap()))
+}
+
+fn bits([top, next, last]: [u32; 3]) -> u64 {
+    u64::from(top) << 60 | u64::from(next % PAYLOADS) << 30 | u64::from(last % PAYLOADS)
+}
+
+fn finite(bits: u64) -> bool {
+    bits >> 52 & 0x7ff != 0x7ff
+}
+
+/// The first fault of the words of some cells, one after the other.
+#[cold]
+fn fault(bytes: &[u8]) -> u32 {
+    for place in 0..3 {
+        match due(bytes, place, CELL) {
+            Err(fault) => return fault,
+            Ok(payload) if place == 0 && payload > 15 => return 19,
+            _ => (),
+        }
+    }
+    7
+}
+
+#[inline(never)]
+pub fn read(bytes: &[u8], counts: &mut [usize], payoffs: &mut [f64]) -> Result<usize, u32> {
+    if bytes.len() % 4 != 0 {
+        return Err(17);
+    }
+    let opening = due(bytes, 0, OPENING)?;
+    if opening / 256 != 1 {
+        return Err(19);
+    }
+    let players = opening as usize % 256;
+    if players == 0 {
+        return Err(1);
+    }
+    if players > PLAYERS {
+        return Err(2);
+    }
+    let mut cells = players;
+    let mut held = [0; PLAYERS];
+    for (player, count) in held[..players].iter_mut().enumerate() {
+        *count = due(bytes, 1 + player, COUNT)? as usize;
+        if *count == 0 {
+            return Err(3);
+        }
+        if *count > STRATEGIES {
+            return Err(4);
+        }
+        cells *= *count;
+    }
+    if cells > CELLS {
+        return Err(5);
+    }
+    if counts.len() < players || payoffs.len() < cells {
+        return Err(13);
+    }
+    let body = &bytes[4 * (1 + players)..];
+    let body = &body[..body.len().min(12 * cells)];
+    let words = body.chunks_exact(12);
+    let rest = words.remainder();
+    for bytes in words {
+        let [top, next, last] = cell(bytes);
+        let kinds = top >> 4 == CELL << 26 && next >> 30 == CELL && last >> 30 == CELL;
+        if !kinds || !finite(bits([top, next, last])) {
+            return Err(fault(bytes));
+        }
+    }
+    if body.len() < 12 * cells {
+        return Err(fault(rest));
+    }
+    let before = 1 + players + 3 * cells;
+    if due(bytes, before, CLOSING)? as usize != before {
+        return Err(19);
+    }
+    if bytes.len() > 4 * (before + 1) {
+        return Err(20);
+    }
+    counts[..players].copy_from_slice(&held[..players]);
+    for (payoff, bytes) in payoffs.iter_mut().zip(body.chunks_exact(12)) {
+        *payoff = f64::from_bits(bits(cell(bytes)));
+    }
+    Ok(players)
+}
+
+#[inline(never)]
+pub fn write(counts: &[usize], payoffs: &[f64], bytes: &mut [u8]) -> Result<usize, u32> {
+    if counts.is_empty() {
+        return Err(1);
+    }
+    if counts.len() > PLAYERS {
+        return Err(2);
+    }
+    let mut cells = counts.len();
+    for count in counts {
+        if *count == 0 {
+            return Err(3);
+        }
+        if *count > STRATEGIES {
+            return Err(4);
+        }
+        cells *= *count;
+    }
+    if cells > CELLS {
+        return Err(5);
+    }
+    if payoffs.len() != cells {
+        return Err(6);
+    }
+    if !payoffs.iter().all(|payoff| payoff.is_finite()) {
+        return Err(7);
+    }
+    let before = 1 + counts.len() + 3 * cells;
+    let length = 4 * (before + 1);
+    if bytes.len() < length {
+        return Err(13);
+    }
+    let word = |kind: u32, payload: u32| (kind * PAYLOADS | payload % PAYLOADS).to_be_bytes();
+    let (head, body) = bytes[..length].split_at_mut(4 * (1 + counts.len()));
+    let (body, closing) = body.split_at_mut(12 * cells);
+    head[..4].copy_from_slice(&word(OPENING, 256 + counts.len() as u32));
+    for (bytes, count) in head[4..].chunks_exact_mut(4).zip(counts) {
+        bytes.copy_from_slice(&word(COUNT, *count as u32));
+    }
+    for (bytes, payoff) in body.chunks_exact_mut(12).zip(payoffs) {
+        let bits = payoff.to_bits();
+        bytes[..4].copy_from_slice(&word(CELL, (bits >> 60) as u32));
+        bytes[4..8].copy_from_slice(&word(CELL, (bits >> 30) as u32));
+        bytes[8..].copy_from_slice(&word(CELL, bits as u32));
+    }
+    closing.copy_from_slice(&word(CLOSING, before as u32));
+    Ok(length)
+}
