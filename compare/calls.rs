@@ -59,7 +59,7 @@ pub fn compare() {
     report(candidates.verdict, &[], &[(Judge::Unasked, &verdict)]);
     report(candidates.minimax, &classes(&Candidates::MINIMAX), &others);
     let deposits = deposit::deposits();
-    let read = Deposits::read_grounds();
+    let read: Vec<u32> = (0..deposit::GROUNDS.len() as u32).collect();
     report(deposits.read, &[], &[(Judge::Unasked, &read)]);
     report(deposits.write, &[], &[(Judge::Unasked, &Deposits::WRITE)]);
     println!("compare: {with_rust} cases with the Rust and {with_document} with document 01 alone, 0 differences");

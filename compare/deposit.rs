@@ -8,11 +8,6 @@ use crate::strikes::LEAST;
 use crate::tally::{floats, numbers, sure, Judge, Tally, STATUSES};
 use std::fmt::Write;
 
-const LENGTH_OR_ABSENT: u32 = 17;
-const KIND: u32 = 18;
-const PAYLOAD: u32 = 19;
-const FOLLOWS: u32 = 20;
-
 /// The kinds of words.
 pub const OPENING: u32 = 0;
 pub const COUNT: u32 = 1;
@@ -50,53 +45,54 @@ pub enum Ground {
     Accepted,
 }
 
-impl Ground {
-    const TITLES: [&'static str; Self::Accepted as usize + 1] = [
-        "refused by 17, the length:",
-        "refused by 17, no opening word:",
-        "refused by 18, the opening word:",
-        "refused by 19, the edition:",
-        "refused by 1:",
-        "refused by 2:",
-        "refused by 17, no count word:",
-        "refused by 18, a count word:",
-        "refused by 3:",
-        "refused by 4:",
-        "refused by 5:",
-        "refused by 13, the counts alone:",
+/// Each ground with its refusal's number and its title.
+pub const GROUNDS: [(Ground, u32, &str); Ground::Accepted as usize + 1] = [
+    (Ground::Length, 17, "refused by 17, the length:"),
+    (Ground::NoOpening, 17, "refused by 17, no opening word:"),
+    (Ground::OpeningKind, 18, "refused by 18, the opening word:"),
+    (Ground::Edition, 19, "refused by 19, the edition:"),
+    (Ground::NoPlayers, 1, "refused by 1:"),
+    (Ground::ManyPlayers, 2, "refused by 2:"),
+    (Ground::NoCount, 17, "refused by 17, no count word:"),
+    (Ground::CountKind, 18, "refused by 18, a count word:"),
+    (Ground::NoStrategies, 3, "refused by 3:"),
+    (Ground::ManyStrategies, 4, "refused by 4:"),
+    (Ground::ManyCells, 5, "refused by 5:"),
+    (Ground::ShortCounts, 13, "refused by 13, the counts alone:"),
+    (
+        Ground::ShortPayoffs,
+        13,
         "refused by 13, the payoffs alone:",
-        "refused by 13, both:",
-        "refused by 17, no cell word:",
-        "refused by 18, a cell word:",
+    ),
+    (Ground::ShortBoth, 13, "refused by 13, both:"),
+    (Ground::NoCell, 17, "refused by 17, no cell word:"),
+    (Ground::CellKind, 18, "refused by 18, a cell word:"),
+    (
+        Ground::FirstOver,
+        19,
         "refused by 19, the first of three words:",
-        "refused by 7:",
-        "refused by 17, no closing word:",
-        "refused by 18, the closing word:",
+    ),
+    (Ground::NonFinite, 7, "refused by 7:"),
+    (Ground::NoClosing, 17, "refused by 17, no closing word:"),
+    (Ground::ClosingKind, 18, "refused by 18, the closing word:"),
+    (
+        Ground::ClosingNumber,
+        19,
         "refused by 19, the closing number:",
-        "refused by 20:",
-        "accepted",
-    ];
+    ),
+    (Ground::Follows, 20, "refused by 20:"),
+    (Ground::Accepted, 0, "accepted"),
+];
 
-    /// The number of the refusal that has the ground; 0 where there is none.
-    pub fn refusal(self) -> u32 {
-        match self {
-            Self::Length | Self::NoOpening | Self::NoCount | Self::NoCell | Self::NoClosing => {
-                LENGTH_OR_ABSENT
-            }
-            Self::OpeningKind | Self::CountKind | Self::CellKind | Self::ClosingKind => KIND,
-            Self::Edition | Self::FirstOver | Self::ClosingNumber => PAYLOAD,
-            Self::NoPlayers => document::NO_PLAYERS,
-            Self::ManyPlayers => document::MANY_PLAYERS,
-            Self::NoStrategies => document::NO_STRATEGIES,
-            Self::ManyStrategies => document::MANY_STRATEGIES,
-            Self::ManyCells => document::MANY_CELLS,
-            Self::ShortCounts | Self::ShortPayoffs | Self::ShortBoth => document::SHORT,
-            Self::NonFinite => document::NON_FINITE,
-            Self::Follows => FOLLOWS,
-            Self::Accepted => 0,
-        }
+const TITLES: [&str; GROUNDS.len()] = {
+    let mut titles = [""; GROUNDS.len()];
+    let mut i = 0;
+    while i < titles.len() {
+        titles[i] = GROUNDS[i].2;
+        i += 1;
     }
-}
+    titles
+};
 
 /// The words of a table, or of what would be one: a count is cut to a payload.
 pub fn words(counts: &[usize], payoffs: &[f64]) -> Vec<u32> {
@@ -229,10 +225,7 @@ pub struct Deposits {
 }
 
 impl Deposits {
-    /// The grounds that each call has to meet.
-    pub fn read_grounds() -> Vec<u32> {
-        (0..=Ground::Accepted as u32).collect()
-    }
+    /// What the writer has to meet; the reader has to meet every ground.
     pub const WRITE: [u32; 9] = [0, 1, 2, 3, 4, 5, 6, 7, document::SHORT];
 
     /// A file into outputs of these lengths; where it is accepted, writing what was read gives the bytes back.
@@ -268,7 +261,7 @@ impl Deposits {
             ground as u32,
             Judge::Unasked,
             || file(bytes) + &numbers("lengths", &lengths),
-            answer(judge.clone().map_err(Ground::refusal)),
+            answer(judge.clone().map_err(|ground| GROUNDS[ground as usize].1)),
             lists.answer_table(status),
         );
         judge.ok()
@@ -318,7 +311,7 @@ fn file(bytes: &[u8]) -> String {
 
 pub fn deposits() -> Deposits {
     let mut deposits = Deposits {
-        read: Tally::of("read", &Ground::TITLES, LEAST),
+        read: Tally::of("read", &TITLES, LEAST),
         write: Tally::of("write", &STATUSES, LEAST),
     };
     deposit_cases::run(&mut deposits);

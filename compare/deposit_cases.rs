@@ -1,7 +1,7 @@
 //! Where the cases of deposit files come from.
 
 use crate::cases::{self, Filling, Random};
-use crate::deposit::{self, Deposits, Ground, CELL, CLOSING, COUNT, OPENING, PAYLOADS};
+use crate::deposit::{self, Deposits, Ground, CELL, CLOSING, COUNT, GROUNDS, OPENING, PAYLOADS};
 use crate::document::{self, CELLS, STRATEGIES};
 use crate::solvers::{self, Room, EMPTY, ENOUGH, SHORT};
 use crate::tally::sure;
@@ -10,7 +10,7 @@ use crate::tally::sure;
 const BYTES: [isize; 6] = [0, 0, 0, 1, 3, 9];
 const FEW_BYTES: [isize; 5] = [-1, -3, -4, -5, EMPTY];
 
-/// The most cells of a table that is handed over whole where it has too many, or often.
+/// Of the cells of a table with too many, mostly only so many are handed over.
 const SOME: usize = 64;
 
 pub fn run(deposits: &mut Deposits) {
@@ -22,7 +22,7 @@ pub fn run(deposits: &mut Deposits) {
     for _ in 0..2_000 {
         damaged(deposits, &mut random);
     }
-    for first in FAULTS {
+    for (first, ..) in GROUNDS {
         for _ in 0..4_000 {
             faulty_file(deposits, &mut random, first);
         }
@@ -183,33 +183,8 @@ fn payload(random: &mut Random) -> u32 {
     random.number() as u32 % PAYLOADS
 }
 
-/// The reader's faults that a file is made with, in the order in which they are met.
-const FAULTS: [Ground; 22] = [
-    Ground::Length,
-    Ground::NoOpening,
-    Ground::OpeningKind,
-    Ground::Edition,
-    Ground::NoPlayers,
-    Ground::ManyPlayers,
-    Ground::NoCount,
-    Ground::CountKind,
-    Ground::NoStrategies,
-    Ground::ManyStrategies,
-    Ground::ManyCells,
-    Ground::ShortCounts,
-    Ground::ShortPayoffs,
-    Ground::ShortBoth,
-    Ground::NoCell,
-    Ground::CellKind,
-    Ground::FirstOver,
-    Ground::NonFinite,
-    Ground::NoClosing,
-    Ground::ClosingKind,
-    Ground::ClosingNumber,
-    Ground::Follows,
-];
-
-/// A file with one fault, and with any of those after it, as far as they go together: so each comes with later ones.
+/// A file with one fault, or with none, and with any of those after it, as far as they go together: so each comes with
+/// later ones.
 fn faulty_file(deposits: &mut Deposits, random: &mut Random, first: Ground) {
     let later = match random.below(3) {
         0 => 0,
@@ -223,8 +198,8 @@ fn faulty_file(deposits: &mut Deposits, random: &mut Random, first: Ground) {
         ground == first || (ground > first && among)
     };
     let has_refusal = |refusal| {
-        let mut grounds = FAULTS.iter().filter(|ground| ground.refusal() == refusal);
-        grounds.any(|ground| has(*ground))
+        let mut grounds = GROUNDS.iter().filter(|(_, number, _)| *number == refusal);
+        grounds.any(|(ground, ..)| has(*ground))
     };
     let counts = solvers::faulty_counts(random, has_refusal);
     let cells = needed(&counts)[1];
@@ -360,7 +335,7 @@ fn faulty_table(deposits: &mut Deposits, random: &mut Random, faults: u32) {
     let counts = solvers::faulty_counts(random, has);
     let mut payoffs = solvers::faulty_payoffs(random, has, &counts);
     if random.below(8) != 0 {
-        payoffs.truncate(random.pick(&[SOME, 3 * SOME]));
+        payoffs.truncate(2 * SOME);
     }
     let room = if has(document::SHORT) {
         random.pick(&FEW_BYTES)
