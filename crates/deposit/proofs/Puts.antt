@@ -2,7 +2,7 @@
 -- Assumes nothing.
 use mathlib.Core.Path.{_≡_, refl, sym, ap, _∙_}
 use mathlib.Core.List.{List, [], _∷_, _++_, map, flatMap, append-assoc, append-nil, map-append}
-use Prim.Native.Nat.{ℕ, suc, _+_, _*_, _<_, _≤_}
+use Prim.Native.Nat.{ℕ, suc, _+_, _*_, _/_, _%_, _^_, _<_, _≤_}
 use native.Mathlib.Nat.{add-zero, zero-add, add-suc, suc-add}
 use native.Mathlib.Numerals.{add-one}
 use native.Mathlib.Omega.{arith}
@@ -60,6 +60,45 @@ pub word-stores : (bytes : List ℕ) (place k n : ℕ)
 unfolding bytesOf flatMap
 word-stores bytes place k n = ap (λ (r : List ℕ). sets bytes (4 * place) r) (sym (append-nil (wordBytes (word k n))))
 
+-- ---- the eight bytes of two words, which are one number
+
+pub eight-stores : (bytes : List ℕ) (at a b c d e f g h : ℕ)
+    → set (set (set (set (set (set (set (set bytes at a) (at + 1) b) (at + 2) c) (at + 3) d) (at + 4) e) (at + 5) f) (at + 6) g) (at + 7) h ≡ sets bytes at (a ∷ b ∷ c ∷ d ∷ e ∷ f ∷ g ∷ h ∷ [])
+eight-stores bytes at a b c d e f g h =
+    let one : at + 1 ≡ suc at = omega arith in
+    let two : at + 2 ≡ suc (suc at) = omega arith in
+    let three : at + 3 ≡ suc (suc (suc at)) = omega arith in
+    let four : at + 4 ≡ suc (suc (suc (suc at))) = omega arith in
+    let five : at + 5 ≡ suc (suc (suc (suc (suc at)))) = omega arith in
+    let six : at + 6 ≡ suc (suc (suc (suc (suc (suc at))))) = omega arith in
+    let seven : at + 7 ≡ suc (suc (suc (suc (suc (suc (suc at)))))) = omega arith in
+    rw (one, two, three, four, five, six, seven) refl
+
+pub pair-bytes : (n : ℕ) → bytesOf (n / 2 ^ 32 ∷ n % 2 ^ 32 ∷ []) ≡ n / 2 ^ 56 ∷ n / 2 ^ 48 % 256 ∷ n / 2 ^ 40 % 256 ∷ n / 2 ^ 32 % 256 ∷ n / 2 ^ 24 % 256 ∷ n / 2 ^ 16 % 256 ∷ n / 2 ^ 8 % 256 ∷ n % 256 ∷ []
+unfolding bytesOf flatMap wordBytes
+pair-bytes n = rw (first, second, third, fifth, sixth, seventh, eighth) refl
+  where
+    first : n / 2 ^ 32 / 2 ^ 24 ≡ n / 2 ^ 56
+    first = omega arith
+
+    second : n / 2 ^ 32 / 2 ^ 16 % 256 ≡ n / 2 ^ 48 % 256
+    second = omega arith
+
+    third : n / 2 ^ 32 / 2 ^ 8 % 256 ≡ n / 2 ^ 40 % 256
+    third = omega arith
+
+    fifth : n % 2 ^ 32 / 2 ^ 24 ≡ n / 2 ^ 24 % 256
+    fifth = omega arith
+
+    sixth : n % 2 ^ 32 / 2 ^ 16 % 256 ≡ n / 2 ^ 16 % 256
+    sixth = omega arith
+
+    seventh : n % 2 ^ 32 / 2 ^ 8 % 256 ≡ n / 2 ^ 8 % 256
+    seventh = omega arith
+
+    eighth : n % 2 ^ 32 % 256 ≡ n % 256
+    eighth = omega arith
+
 -- ---- the counts, and the payoffs
 
 pub counts-more : (bytes counts : List ℕ) (p : ℕ) → p < length counts
@@ -82,10 +121,3 @@ payoffs-more bytes start xs i h =
     let size : length (flatMap payoffWords (take i xs)) ≡ i * 3 = payoffs-words (take i xs) ∙ ap (λ (n : ℕ). n * 3) (length-take-le i xs (omega (arith, h))) in
     put-more bytes start (start + 3 * i) (flatMap payoffWords (take i xs)) (payoffWords (getD xs i nan)) (omega (arith, size))
     ∙ ap (λ (r : List ℕ). wordsPut bytes start r) (sym (rw (add-one i, take-suc xs i nan h) (flatMap-last payoffWords (take i xs) (getD xs i nan))))
-
--- one after the other, the three words of a payoff
-pub three-words : (bytes : List ℕ) (at a b c : ℕ)
-    → wordsPut (wordsPut (wordsPut bytes at (a ∷ [])) (at + 1) (b ∷ [])) (at + 2) (c ∷ []) ≡ wordsPut bytes at (a ∷ b ∷ c ∷ [])
-three-words bytes at a b c =
-    ap (λ (r : List ℕ). wordsPut r (at + 2) (c ∷ [])) (put-more bytes at (at + 1) (a ∷ []) (b ∷ []) refl)
-    ∙ put-more bytes at (at + 2) (a ∷ b ∷ []) (c ∷ []) refl

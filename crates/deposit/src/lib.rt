@@ -13,10 +13,10 @@ ghost use mathlib.Core.Path.{_≡_};
 ghost use mathlib.Core.Bool.{not};
 ghost use mathlib.Core.List.{[], _∷_, map, flatMap};
 ghost use mathlib.Core.Option.{none};
-ghost use Prim.Native.Nat.{ℕ, suc, _+_, _*_, _^_, _≤_, _<_};
+ghost use Prim.Native.Nat.{ℕ, suc, _+_, _*_, _/_, _%_, _^_, _≤_, _<_};
 ghost use lib.Dec.{T, ltb};
 ghost use lib.ListN.{length, getD};
-ghost use lib.Ieee.{nan};
+ghost use lib.Ieee.{nan, binary64, toBits};
 ghost use Rattle.game.specs.Finite.{below};
 ghost use Rattle.refusal.specs.Refusal.{when, _then_, each};
 ghost use Rattle.refusal.specs.declared.NormalFormError.the-variants.{TooManyCells};
@@ -188,16 +188,15 @@ fn put_counts(bytes: &[u8], players: usize, counts: &mut [usize])
     }
 }
 
-// The payoff of three words from a place on, whose bits are no NaN's.
+// The payoff of three words from a place on that have no fault.
 fn payoff_at(bytes: &[u8], place: usize) -> f64
     requires { ⌜ place ≤ suc maxPlayers + 3 * maxCells ⌝ }
-    requires { ⌜ payloadAt (wordsOf (now bytes)) place ≤ 15 ⌝ }
-    requires { ⌜ T (finite (payoffIn (wordsOf (now bytes)) place)) ⌝ }
+    requires { ⌜ cellFault (wordsOf (now bytes)) place ≡ none ⌝ }
     ensures { λ r. ⌜ r ≡ payoffIn (wordsOf (now (bytes .entry))) place ⌝ }
 {
-    let top = words::payload(bytes, place);
-    let next = words::payload(bytes, place + 1);
-    let last = words::payload(bytes, place + 2);
+    let top = words::part(bytes, place, CELL);
+    let next = words::part(bytes, place + 1, CELL);
+    let last = words::part(bytes, place + 2, CELL);
     f64::from_bits((top * 0x1000000000000000 + next * 0x40000000 + last) as u64)
 }
 
@@ -272,6 +271,36 @@ fn write_counts(counts: &[usize], bytes: &mut [u8])
     }
 }
 
+// The second and the third word of a finite payoff, as one number. The test is always passed; it makes the number one to the compiler too, which
+// so stores the eight bytes at once, and would else make each by itself.
+fn pair(x: f64) -> u64
+    requires { ⌜ T (finite x) ⌝ }
+    ensures { λ r. ⌜ r ≡ word 2 (toBits binary64 x / 2 ^ 30 % 2 ^ 30) * 2 ^ 32 + word 2 (toBits binary64 x % 2 ^ 30) ⌝ }
+{
+    if utility::is_finite(x) {
+        let bits = f64::to_bits(x);
+        0x8000000080000000 + bits / 0x40000000 % 0x40000000 * 0x100000000 + bits % 0x40000000
+    } else {
+        0
+    }
+}
+
+// Puts two words, which are one number, at a place.
+fn put_pair(bytes: &mut [u8], place: usize, pair: u64)
+    requires { ⌜ 4 * place + 8 ≤ length (now bytes) ⌝ }
+    ensures { λ _. ⌜ now (bytes .exit) ≡ wordsPut (now (bytes .entry)) place (pair / 2 ^ 32 ∷ pair % 2 ^ 32 ∷ []) ⌝ }
+{
+    let at = WORD * place;
+    bytes[at] = (pair / 0x100000000000000) as u8;
+    bytes[at + 1] = (pair / 0x1000000000000 % 0x100) as u8;
+    bytes[at + 2] = (pair / 0x10000000000 % 0x100) as u8;
+    bytes[at + 3] = (pair / 0x100000000 % 0x100) as u8;
+    bytes[at + 4] = (pair / 0x1000000 % 0x100) as u8;
+    bytes[at + 5] = (pair / 0x10000 % 0x100) as u8;
+    bytes[at + 6] = (pair / 0x100 % 0x100) as u8;
+    bytes[at + 7] = (pair % 0x100) as u8;
+}
+
 // Puts the three words of a payoff at a place.
 fn put_payoff(x: f64, place: usize, bytes: &mut [u8])
     requires { ⌜ T (finite x) × (4 * place + 12 ≤ length (now bytes)) ⌝ }
@@ -279,13 +308,7 @@ fn put_payoff(x: f64, place: usize, bytes: &mut [u8])
 {
     let bits = f64::to_bits(x);
     put_word(bytes, place, CELL, (bits / 0x1000000000000000) as u32);
-    put_word(
-        bytes,
-        place + 1,
-        CELL,
-        (bits / 0x40000000 % 0x40000000) as u32,
-    );
-    put_word(bytes, place + 2, CELL, (bits % 0x40000000) as u32);
+    put_pair(bytes, place + 1, pair(x));
 }
 
 // Puts the words of the payoffs at a place.

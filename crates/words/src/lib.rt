@@ -4,7 +4,8 @@ use refusal::NormalFormError;
 use refusal::UnitResult;
 use refusal::UsizeResult;
 ghost use mathlib.Core.Path.{_≡_};
-ghost use Prim.Native.Nat.{_+_, _*_, _≤_};
+ghost use mathlib.Core.Option.{none};
+ghost use Prim.Native.Nat.{_+_, _*_, _≤_, _<_};
 ghost use lib.ListN.{length};
 ghost use Rattle.refusal.specs.Told.{toldUnit, toldUsize, unless};
 ghost use Rattle.words.specs.Words.{wordAt, wordsOf, payloadAt};
@@ -65,6 +66,15 @@ pub fn due(bytes: &[u8], place: usize, kind: u32) -> UsizeResult
         return UsizeResult::Err(NormalFormError::WrongKind);
     }
     UsizeResult::Ok((word % PAYLOADS) as usize)
+}
+
+// The payload of the word that is due at a place: the caller proves that it is there and has the kind, and nothing is tested when it runs. The
+// word less its kind is one number to the compiler, which so loads the four bytes at once; of a remainder it would take each byte by itself.
+pub fn part(bytes: &[u8], place: usize, kind: u32) -> usize
+    requires { ⌜ (kind < 4) × (dueRefusal (wordsOf (now bytes)) place kind ≡ none) ⌝ }
+    ensures { λ r. ⌜ r ≡ payloadAt (wordsOf (now (bytes .entry))) place ⌝ }
+{
+    (word_at(bytes, place) - kind * PAYLOADS) as usize
 }
 
 // Whether the word at a place closes the file: 17 or 18 as of any word that is due, 19 where its number isn't that of the words before it, 20

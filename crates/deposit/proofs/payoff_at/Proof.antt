@@ -12,26 +12,30 @@ use Rattle.words.specs.Words.{wordsOf}
 use Rattle.words.proofs.Words.{payload-lt}
 use Rattle.deposit.specs.Deposit.{payoffIn}
 use Rattle.deposit.proofs.Bits.{bits-no-nan}
-use Rattle.deposit.proofs.Faults.{payoff-bits}
+use Rattle.deposit.proofs.Faults.{Cell, cell-law, payoff-bits}
 use Rattle.deposit.proofs.payoff_at.Statement.{statement}
 use Rattle.deposit.proofs.payoff_at.Tie as tie
 
-payload-requires : tie.Need-payload-requires
-payload-requires c κs = search needs
+-- what the three words are
+cell : (s : tie.Start) → Cell (wordsOf (s .args .bytes .now)) (s .args .place)
+cell s = cell-law (wordsOf (s .args .bytes .now)) (s .args .place) .0 (s .pre .1)
 
-add-payload : tie.Need-add-payload
-add-payload c = omega (arith, c .before .before .pre .0)
+part-requires : tie.Need-part-requires
+part-requires c κs = (omega arith, cell (c .before) .first)
 
-payload-requires-2 : tie.Need-payload-requires-2
-payload-requires-2 c κs = search needs
+add-part : tie.Need-add-part
+add-part c = omega (arith, c .before .before .pre .0)
 
-add-payload-2 : tie.Need-add-payload-2
-add-payload-2 c = omega (arith, c .before .before .before .pre .0)
+part-requires-2 : tie.Need-part-requires-2
+part-requires-2 c κs = (omega arith, cell (c .before .before) .second)
 
-payload-requires-3 : tie.Need-payload-requires-3
-payload-requires-3 c κs = search needs
+add-part-2 : tie.Need-add-part-2
+add-part-2 c = omega (arith, c .before .before .before .pre .0)
 
-module _ (c : tie.After-payload3) where
+part-requires-3 : tie.Need-part-requires-3
+part-requires-3 c κs = (omega arith, cell (c .before .before .before) .third)
+
+module _ (c : tie.After-part3) where
   abbrev ws : List ℕ
   ws = wordsOf (c .before .before .before .before .args .bytes .now)
 
@@ -39,23 +43,23 @@ module _ (c : tie.After-payload3) where
   at = c .before .before .before .before .args .place
 
   abbrev top : ℕ
-  top = c .before .before .payload .result
+  top = c .before .before .part .result
 
   abbrev next : ℕ
-  next = c .before .payload2 .result
+  next = c .before .part2 .result
 
   abbrev last : ℕ
-  last = c .payload3 .result
+  last = c .part3 .result
 
   bounds : (top ≤ 15) × (next < 2 ^ 30) × (last < 2 ^ 30)
   bounds = (
-    rw (c .before .before .payload .ensures) (c .before .before .before .before .pre .1 .0),
-    rw (c .before .payload2 .ensures) (payload-lt (getD ws (at + 1) 0)),
-    rw (c .payload3 .ensures) (payload-lt (getD ws (at + 2) 0)),
+    rw (c .before .before .part .ensures) (cell (c .before .before .before .before) .small),
+    rw (c .before .part2 .ensures) (payload-lt (getD ws (at + 1) 0)),
+    rw (c .part3 .ensures) (payload-lt (getD ws (at + 2) 0)),
   )
 
   is : payoffIn ws at ≡ ofBits binary64 (top * 2 ^ 60 + next * 2 ^ 30 + last)
-  is = payoff-bits ws at top next last (c .before .before .payload .ensures) (c .before .payload2 .ensures) (c .payload3 .ensures)
+  is = payoff-bits ws at top next last (c .before .before .part .ensures) (c .before .part2 .ensures) (c .part3 .ensures)
 
 mul-result : tie.Need-mul-result
 mul-result c = omega (arith, bounds c)
@@ -70,7 +74,7 @@ add-result-2 : tie.Need-add-result-2
 add-result-2 c = omega (arith, bounds c)
 
 float-from-bits-result : tie.Need-float-from-bits-result
-float-from-bits-result c = bits-no-nan _ (subst (λ (x : Float). T (finite x)) (is c) (c .before .before .before .before .pre .1 .1))
+float-from-bits-result c = bits-no-nan _ (subst (λ (x : Float). T (finite x)) (is c) (cell (c .before .before .before .before) .held))
 
 returns : tie.Need-returns
 returns c = sym (is c)
@@ -79,11 +83,11 @@ pub payoff-at-spec : {M : Type 1} → statement M
 payoff-at-spec =
     tie.close
     (tie.spec
-    payload-requires
-    add-payload
-    payload-requires-2
-    add-payload-2
-    payload-requires-3
+    part-requires
+    add-part
+    part-requires-2
+    add-part-2
+    part-requires-3
     mul-result
     mul-result-2
     add-result

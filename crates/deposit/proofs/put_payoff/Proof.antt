@@ -11,7 +11,7 @@ use Rattle.words.specs.Words.{word}
 use Rattle.deposit.specs.Deposit.{payoffWords}
 use Rattle.deposit.specs.Put.{wordsPut}
 use Rattle.deposit.proofs.Bits.{finite-has-bits, bits-below}
-use Rattle.deposit.proofs.Puts.{put-length, three-words}
+use Rattle.deposit.proofs.Puts.{put-length, put-more}
 use Rattle.deposit.proofs.put_payoff.Statement.{statement}
 use Rattle.deposit.proofs.put_payoff.Tie as tie
 
@@ -32,55 +32,50 @@ put-word-requires c κs = (omega arith, omega (arith, wide (c .before .before)),
 once : (c : tie.After-put-word) → length (c .put-word .last .0) ≡ length (c .before .before .before .args .bytes .now)
 once c = let s = c .before .before .before in ap length (c .put-word .ensures) ∙ put-length (s .args .bytes .now) (s .args .place) (word 2 (toBits binary64 (s .args .x) / 2 ^ 60) ∷ [])
 
-twice : (c : tie.After-put-word2) → length (c .put-word2 .last .0) ≡ length (c .before .before .before .before .put-word .last .0)
-twice c =
+add-put-pair : tie.Need-add-put-pair
+add-put-pair c = let s = c .before .before .before .before .before .before in omega (arith, s .pre .1, s .good)
+
+pair-requires : tie.Need-pair-requires
+pair-requires c κs = c .before .before .before .before .before .before .pre .0
+
+put-pair-requires : tie.Need-put-pair-requires
+put-pair-requires c κs =
     let k = c .before .before .before .before in
-    let s = k .before .before .before in
-    ap length (c .put-word2 .ensures) ∙ put-length (k .put-word .last .0) (s .args .place + 1) (word 2 (toBits binary64 (s .args .x) / 2 ^ 30 % 2 ^ 30) ∷ [])
+    omega (arith, once k, k .before .before .before .pre .1)
 
-add-put-word : tie.Need-add-put-word
-add-put-word c = let s = c .before .before .before .before .before .before in omega (arith, s .pre .1, s .good)
+-- the second and the third word, from their number
+module _ (a b n : ℕ) (B : b < 2 ^ 30) (is : n ≡ word 2 a * 2 ^ 32 + word 2 b) where
+  high : n / 2 ^ 32 ≡ word 2 a
+  unfolding word
+  high = omega (arith, is)
 
-cast-put-word-2 : tie.Need-cast-put-word-2
-cast-put-word-2 c = omega arith
-
-put-word-requires-2 : tie.Need-put-word-requires-2
-put-word-requires-2 c κs =
-    let k = c .before .before .before in
-    (omega arith, omega arith, omega (arith, once k, k .before .before .before .pre .1))
-
-add-put-word-2 : tie.Need-add-put-word-2
-add-put-word-2 c = let s = c .before .before .before .before .before .before .before .before .before .before in omega (arith, s .pre .1, s .good)
-
-cast-put-word-3 : tie.Need-cast-put-word-3
-cast-put-word-3 c = omega arith
-
-put-word-requires-3 : tie.Need-put-word-requires-3
-put-word-requires-3 c κs =
-    let k = c .before .before .before in
-    let j = k .before .before .before .before in
-    (omega arith, omega arith, omega (arith, twice k, once j, j .before .before .before .pre .1))
+  low : n % 2 ^ 32 ≡ word 2 b
+  unfolding word
+  low = omega (arith, is)
 
 -- the three words, put one after the other
-is : (c : tie.After-slice-known4) →
-    let s = c .before .before .before .before .before .before .before .before .before .before .before .before .before in
-    c .before .before .put-word3 .last .0 ≡ wordsPut (s .args .bytes .now) (s .args .place) (payoffWords (s .args .x))
+is : (c : tie.After-slice-known3) →
+    let s = c .before .before .before .before .before .before .before .before .before .before in
+    c .before .before .put-pair .last .0 ≡ wordsPut (s .args .bytes .now) (s .args .place) (payoffWords (s .args .x))
 unfolding payoffWords
 is c =
-    let k = c .before .before in
-    let j = k .before .before .before .before in
-    let i = j .before .before .before .before in
+    let j = c .before .before in
+    let k = j .before in
+    let i = k .before .before .before .before in
     let s = i .before .before .before in
     let b = toBits binary64 (s .args .x) in
     let at = s .args .place in
-    k .put-word3 .ensures
-    ∙ ap (λ (r : List ℕ). wordsPut r (at + 2) (word 2 (b % 2 ^ 30) ∷ [])) (j .put-word2 .ensures)
-    ∙ ap (λ (r : List ℕ). wordsPut (wordsPut r (at + 1) (word 2 (b / 2 ^ 30 % 2 ^ 30) ∷ [])) (at + 2) (word 2 (b % 2 ^ 30) ∷ [])) (i .put-word .ensures)
-    ∙ three-words (s .args .bytes .now) at (word 2 (b / 2 ^ 60)) (word 2 (b / 2 ^ 30 % 2 ^ 30)) (word 2 (b % 2 ^ 30))
+    let n = k .pair .result in
+    let small : b % 2 ^ 30 < 2 ^ 30 = omega arith in
+    j .put-pair .ensures
+    ∙ ap (λ (r : List ℕ). wordsPut r (at + 1) (n / 2 ^ 32 ∷ n % 2 ^ 32 ∷ [])) (i .put-word .ensures)
+    ∙ put-more (s .args .bytes .now) at (at + 1) (word 2 (b / 2 ^ 60) ∷ []) (n / 2 ^ 32 ∷ n % 2 ^ 32 ∷ []) refl
+    ∙ ap (λ (w : ℕ). wordsPut (s .args .bytes .now) at (word 2 (b / 2 ^ 60) ∷ w ∷ n % 2 ^ 32 ∷ [])) (high (b / 2 ^ 30 % 2 ^ 30) (b % 2 ^ 30) n small (k .pair .ensures))
+    ∙ ap (λ (w : ℕ). wordsPut (s .args .bytes .now) at (word 2 (b / 2 ^ 60) ∷ word 2 (b / 2 ^ 30 % 2 ^ 30) ∷ w ∷ [])) (low (b / 2 ^ 30 % 2 ^ 30) (b % 2 ^ 30) n small (k .pair .ensures))
 
 same-length : tie.Need-same-length
 same-length c =
-    let s = c .before .before .before .before .before .before .before .before .before .before .before .before .before in
+    let s = c .before .before .before .before .before .before .before .before .before .before in
     ap length (is c) ∙ put-length (s .args .bytes .now) (s .args .place) (payoffWords (s .args .x))
 
 returns : tie.Need-returns
@@ -93,11 +88,8 @@ put-payoff-spec =
     float-to-bits-bits
     cast-put-word
     put-word-requires
-    add-put-word
-    cast-put-word-2
-    put-word-requires-2
-    add-put-word-2
-    cast-put-word-3
-    put-word-requires-3
+    add-put-pair
+    pair-requires
+    put-pair-requires
     same-length
     returns)

@@ -11,7 +11,6 @@ use Rattle.table.specs.Outputs.{over}
 use Rattle.table.proofs.Outputs.{over-length, over-next}
 use Rattle.words.specs.Words.{wordsOf}
 use Rattle.deposit.specs.Deposit.{payoffsIn, cellPlace, payoffIn}
-use Rattle.deposit.proofs.Faults.{cell-law}
 use Rattle.deposit.proofs.Tables.{payoffs-length, payoffs-at}
 use Rattle.deposit.proofs.put_payoffs.Statement.{statement}
 use Rattle.deposit.proofs.put_payoffs.Tie as tie
@@ -48,8 +47,7 @@ payoff-at-requires c κs =
     let ws = wordsOf (s .args .bytes .now) in
     let i = c .before .loop .i in
     let at : 1 + s .args .players + 3 * i ≡ cellPlace ws i = ap (λ (n : ℕ). 1 + n + 3 * i) (s .pre .0 .0) in
-    let k = cell-law ws (cellPlace ws i) .0 (s .pre .1 .1 i (c .loop-test .taken)) in
-    (omega (arith, s .pre .0, s .pre .1 .0, c .loop-test .taken), (rw at (k .small), rw at (k .held)))
+    (omega (arith, s .pre .0, s .pre .1 .0, c .loop-test .taken), rw at (s .pre .1 .1 i (c .loop-test .taken)))
 
 mul-payoffs : tie.Need-mul-payoffs Inv-loop μ-loop
 mul-payoffs c = let s = c .before .before .before .before .before in omega (arith, s .pre .1 .0, c .before .loop-test .taken)
