@@ -159,19 +159,21 @@ uint32_t sigvanyor_strikes(const size_t *counts, size_t counts_len, const double
                            uint8_t survivors_marks[SIGVANYOR_MAX_MARKS]);
 
 /* A deposit file: a table as big-endian 32-bit words. The top 2 bits of a word are its kind, the other 30 its payload. Kind 0 opens the
- * file: 256 + P. Kind 1, one for each player: its count. Kind 2, three for each payoff in order: its bits' top 4, next 30 and last 30.
+ * file: 256 + P, where 256 stands for edition 1. Kind 1, one for each player: its count. Kind 2, three for each payoff in order: its bits' top 4, next 30 and last 30.
  * Kind 3 closes it: the number of words before it. So a file has 4 x (2 + P + 3 x profiles x P) bytes, at most
  * SIGVANYOR_MAX_FILE. What sigvanyor_write writes, sigvanyor_read gives back, bits and all, and the other way round. */
 
 /* Reads a deposit file: its counts into `counts`, its payoffs into `payoffs`, and P into `players`; or the first fault from left to right,
- * and nothing is written. A number of bytes that is no multiple of 4 is 17. Then, word by word: absent is 17, of another kind 18. Then
- * its payload: an opening one that is not 256 to 511 is 19, and gives 1 or 2 for its P; a count gives 3 or 4; after the counts comes 5,
- * then 13; a payoff's first part over 15 is 19, and after its third a NaN or an infinity is 7; a wrong closing number is 19; a word after
- * it is 20. */
+ * and nothing is written. First the number of bytes: 17. Then, word by word: 17 where it is absent, 18 where it has another kind, then its
+ * payload. The opening one: 19 where it is not 256 to 511, then 1 or 2 for its P. A count: 3 or 4. After the counts: 5, then 13 where
+ * counts_len is below P or payoffs_len below profiles x P. A payoff's first part over 15: 19; after its third part, a NaN or an infinity:
+ * 7. A wrong closing number: 19; a word after it: 20. SIGVANYOR_MAX_PLAYERS counts and SIGVANYOR_MAX_CELLS payoffs are always room
+ * enough. */
 uint32_t sigvanyor_read(const uint8_t *bytes, size_t bytes_len, size_t *counts, size_t counts_len, double *payoffs, size_t payoffs_len,
                         size_t *players);
 
-/* Writes the table's deposit file into `bytes`, and the number of its bytes into `number`; or 1 to 7, 13. */
+/* Writes the table's deposit file into `bytes`, and the number of its bytes into `number`; or 1 to 7, 13. SIGVANYOR_MAX_FILE bytes are
+ * always room enough. */
 uint32_t sigvanyor_write(const size_t *counts, size_t counts_len, const double *payoffs, size_t payoffs_len,
                          uint8_t *bytes, size_t bytes_len, size_t *number);
 

@@ -1,7 +1,7 @@
 -- Reading what was written gives the table back (`read-back`), and writing what was read gives the bytes back (`write-back`): both are the one
 -- layout of words, whose kinds and payloads give each word back. Assumes nothing.
 use mathlib.Core.Path.{_≡_, refl, sym, ap, ap₂, _∙_, subst}
-use mathlib.Core.List.{List, [], _∷_}
+use mathlib.Core.List.{List}
 use mathlib.Core.Option.{none, some}
 use Prim.Native.Nat.{ℕ, zero, suc, _+_, _*_, _/_, _%_, _^_, _<_, _≤_}
 use native.Mathlib.Omega.{arith}
@@ -10,35 +10,32 @@ use lib.Dec.{T, ltb}
 use lib.ListN.{length, getD}
 use lib.Seq.{ext-getD}
 use lib.Ieee.{Float, nan, binary64, ofBits, toBits}
-use lib.Ieee.Bits.{ofBits-toBits}
+use lib.Ieee.Bits.{ofBits-toBits, toBits-lt}
 use Rattle.game.specs.Finite.{below}
 use Rattle.refusal.specs.Refusal.{Refusal, _then_, when, each}
 use Rattle.refusal.specs.Told.{values, unless}
-use Rattle.refusal.specs.declared.NormalFormError.the-variants.{TooManyCells, OutputTooShort}
-use Rattle.refusal.proofs.Refusal.{when-none, then-none, each-none, none-each}
+use Rattle.refusal.specs.declared.NormalFormError.the-variants.{TooManyCells}
+use Rattle.refusal.proofs.Refusal.{when-none, then-none, then-last, each-none, none-each}
+use Rattle.refusal.proofs.Told.{told-values}
 use Rattle.utility.specs.Order.{finite}
 use Rattle.table.specs.Limits.{maxPlayers, maxCells}
 use Rattle.table.specs.Table.{cells}
 use Rattle.table.specs.Meaning.{Table}
+use Rattle.table.specs.Outputs.{shortRefusal}
 use Rattle.table.specs.Checks.{countRefusal, countsRefusal}
 use Rattle.table.proofs.Checks.{count-fits, counts-law}
 use Rattle.words.specs.Words.{word, payloadAt, wordsOf, bytesOf, closed, Bytes}
-use Rattle.words.specs.Faults.{lengthRefusal, dueRefusal, closingRefusal}
+use Rattle.words.specs.Faults.{lengthFault, dueFault, closingFault}
 use Rattle.words.proofs.Words.{payload-lt, words-back, bytes-back}
 use Rattle.words.proofs.Faults.{length-law, due-word, word-due, closing-law}
-use Rattle.deposit.specs.Deposit.{payoffWords, deposit, playersIn, countsIn, cellPlace, payoffIn, payoffsIn, openingRefusal, countFault, cellFault, readRefusal, tableOf}
+use Rattle.deposit.specs.Deposit.{payoffWords, deposit, playersIn, countsIn, cellPlace, payoffIn, payoffsIn, openingFault, countFault, cellFault, readRefusal, tableOf}
 use Rattle.deposit.specs.Meaning.{wordsBefore, Layout, Doubles}
-use Rattle.deposit.proofs.Bits.{bits-below, bits-there, bits-parts, top-part, next-part, last-part}
+use Rattle.deposit.proofs.Bits.{bits-there, bits-parts, top-part, next-part, last-part}
 use Rattle.deposit.proofs.Faults.{players-is, opening-law, count-fault-law, Cell, cell-law, payoff-bits}
 use Rattle.deposit.proofs.Tables.{counts-length, counts-at, payoffs-length, payoffs-at, counts-left}
 use Rattle.deposit.proofs.Reader.{opened, counted, restFrom, rest, stages, stages-none}
 use Rattle.deposit.proofs.Writer.{body, deposit-length}
 use Rattle.deposit.proofs.Places.{layout, layout-once}
-
-then-last : (a b : Refusal) → (a then b then none) ≡ (a then b)
-then-last none none = refl
-then-last none (some e) = refl
-then-last (some e) b = refl
 
 -- ---- reading a table's words
 
@@ -46,19 +43,19 @@ module _ (counts : List ℕ) (payoffs : List Float) (ws : List ℕ) (t : Table c
   few : (0 < length counts) × (length counts ≤ maxPlayers) × (length payoffs ≤ maxCells)
   few = (t .shape .some, t .shape .few, omega (arith, t .full, t .shape .room))
 
-  open-word : (dueRefusal ws 0 0 ≡ none) × (payloadAt ws 0 ≡ 256 + length counts)
+  open-word : (dueFault ws 0 0 ≡ none) × (payloadAt ws 0 ≡ 256 + length counts)
   open-word = word-due ws 0 0 (256 + length counts) (omega (arith, w .number)) (omega (arith, few)) (w .opening)
 
   pub players-same : playersIn ws ≡ length counts
   players-same =
       let r : (256 + length counts) % 256 ≡ length counts = omega (arith, few) in sym (players-is ws) ∙ ap (λ (n : ℕ). n % 256) (open-word .1) ∙ r
 
-  opening-none : openingRefusal ws ≡ none
+  opening-none : openingFault ws ≡ none
   opening-none =
       opening-law ws .1
       (open-word .0, open-word .1 ∙ ap (λ (n : ℕ). 256 + n) (sym players-same), omega (arith, players-same, few), omega (arith, players-same, few))
 
-  count-word : (p : ℕ) → p < length counts → (dueRefusal ws (1 + p) 1 ≡ none) × (payloadAt ws (1 + p) ≡ getD counts p 0)
+  count-word : (p : ℕ) → p < length counts → (dueFault ws (1 + p) 1 ≡ none) × (payloadAt ws (1 + p) ≡ getD counts p 0)
   count-word p h =
       word-due ws (1 + p) 1 (getD counts p 0) (omega (arith, h, w .number)) (omega (arith, t .shape .high p h)) (w .count p h)
 
@@ -87,20 +84,20 @@ module _ (counts : List ℕ) (payoffs : List Float) (ws : List ℕ) (t : Table c
     b = toBits binary64 x
 
     small : b < 2 ^ 64
-    small = bits-below x (d i)
+    small = toBits-lt binary64 x (d i)
 
-    first : (dueRefusal ws at 2 ≡ none) × (payloadAt ws at ≡ b / 2 ^ 60)
+    first : (dueFault ws at 2 ≡ none) × (payloadAt ws at ≡ b / 2 ^ 60)
     unfolding payoffWords
     first =
         let e : at ≡ at + 0 = omega arith in
         word-due ws at 2 (b / 2 ^ 60) (omega (arith, h, w .number)) (omega (arith, small))
         (ap (λ (k : ℕ). getD ws k 0) e ∙ w .cell i 0 h (omega arith))
 
-    second : (dueRefusal ws (at + 1) 2 ≡ none) × (payloadAt ws (at + 1) ≡ b / 2 ^ 30 % 2 ^ 30)
+    second : (dueFault ws (at + 1) 2 ≡ none) × (payloadAt ws (at + 1) ≡ b / 2 ^ 30 % 2 ^ 30)
     unfolding payoffWords
     second = word-due ws (at + 1) 2 (b / 2 ^ 30 % 2 ^ 30) (omega (arith, h, w .number)) (omega arith) (w .cell i 1 h (omega arith))
 
-    third : (dueRefusal ws (at + 2) 2 ≡ none) × (payloadAt ws (at + 2) ≡ b % 2 ^ 30)
+    third : (dueFault ws (at + 2) 2 ≡ none) × (payloadAt ws (at + 2) ≡ b % 2 ^ 30)
     unfolding payoffWords
     third = word-due ws (at + 2) 2 (b % 2 ^ 30) (omega (arith, h, w .number)) (omega arith) (w .cell i 2 h (omega arith))
 
@@ -131,7 +128,7 @@ module _ (counts : List ℕ) (payoffs : List Float) (ws : List ℕ) (t : Table c
       let l : i < length payoffs = omega (arith, h, payoffs-length ws, cells-same) in
       payoffs-at ws i (omega (arith, l, cells-same)) ∙ ap (payoffIn ws) (place-same i) ∙ payoff-same i l)
 
-  closing-none : closingRefusal ws (wordsBefore counts payoffs) ≡ none
+  closing-none : closingFault ws (wordsBefore counts payoffs) ≡ none
   closing-none = closing-law ws (wordsBefore counts payoffs) (omega (arith, few)) .1 (w .number, w .closing)
 
 module _ (counts : List ℕ) (payoffs : List Float) (t : Table counts payoffs) (d : Doubles payoffs) where
@@ -154,7 +151,7 @@ module _ (counts : List ℕ) (payoffs : List Float) (t : Table counts payoffs) (
   opened-none : opened file ≡ none
   opened-none =
       let even : length file % 4 ≡ 0 = omega (arith, deposit-length counts payoffs) in
-      then-none (lengthRefusal file) (openingRefusal fileWords) .1 (length-law file .1 even, opening-none counts payoffs fileWords t d file-layout)
+      then-none (lengthFault file) (openingFault fileWords) .1 (length-law file .1 even, opening-none counts payoffs fileWords t d file-layout)
 
   counted-none : counted file ≡ none
   counted-none =
@@ -169,49 +166,49 @@ module _ (counts : List ℕ) (payoffs : List Float) (t : Table counts payoffs) (
   rest-none =
       ap (λ (p : ℕ). restFrom fileWords p (cells (countsIn fileWords))) players-back
       ∙ ap (restFrom fileWords (length counts)) cells-back
-      ∙ then-none (each (λ i. cellFault fileWords (1 + length counts + 3 * i)) (below (length payoffs))) (closingRefusal fileWords (wordsBefore counts payoffs)) .1 (
+      ∙ then-none (each (λ i. cellFault fileWords (1 + length counts + 3 * i)) (below (length payoffs))) (closingFault fileWords (wordsBefore counts payoffs)) .1 (
         each-none (length payoffs) (λ i. cellFault fileWords (1 + length counts + 3 * i)) (cell-none counts payoffs fileWords t d file-layout),
         closing-none counts payoffs fileWords t d file-layout,
       )
 
   -- reading what was written gives the table back, counts and payoffs bit for bit; or 13 where an output is short
-  pub read-back : (room room′ : ℕ)
-      → tableOf file room room′ ≡ unless (when (ltb room (length counts)) OutputTooShort then when (ltb room′ (length payoffs)) OutputTooShort) (counts, payoffs)
+  pub read-back : (countsRoom payoffsRoom : ℕ)
+      → tableOf file countsRoom payoffsRoom ≡ unless (shortRefusal (length counts) countsRoom then shortRefusal (length payoffs) payoffsRoom) (counts, payoffs)
   unfolding tableOf
-  read-back room room′ =
+  read-back countsRoom payoffsRoom =
       ap (λ (r : Refusal). unless r (countsIn fileWords, payoffsIn fileWords)) refusal
       ∙ ap₂ (λ (cs : List ℕ) (ps : List Float). unless short (cs, ps)) (counts-same counts payoffs fileWords t d file-layout) (payoffs-same counts payoffs fileWords t d file-layout)
     where
       short : Refusal
-      short = when (ltb room (length counts)) OutputTooShort then when (ltb room′ (length payoffs)) OutputTooShort
+      short = shortRefusal (length counts) countsRoom then shortRefusal (length payoffs) payoffsRoom
 
-      refusal : readRefusal file room room′ ≡ short
-      refusal = stages file room room′ ∙ rw (opened-none, counted-none, rest-none, players-back, cells-back) (then-last (when (ltb room (length counts)) OutputTooShort) (when (ltb room′ (length payoffs)) OutputTooShort))
+      refusal : readRefusal file countsRoom payoffsRoom ≡ short
+      refusal = stages file countsRoom payoffsRoom ∙ rw (opened-none, counted-none, rest-none, players-back, cells-back) (ap (λ (r : Refusal). shortRefusal (length counts) countsRoom then r) (then-last (shortRefusal (length payoffs) payoffsRoom)))
 
 -- ---- writing a file's table
 
-module _ (bytes : List ℕ) (B : Bytes bytes) (room room′ : ℕ) (accepted : readRefusal bytes room room′ ≡ none) where
+module _ (bytes : List ℕ) (B : Bytes bytes) (countsRoom payoffsRoom : ℕ) (accepted : readRefusal bytes countsRoom payoffsRoom ≡ none) where
   abbrev ws : List ℕ
   ws = wordsOf bytes
 
-  none-met : (opened bytes ≡ none) × (counted bytes ≡ none) × (playersIn ws ≤ room) × (cells (countsIn ws) ≤ room′) × (rest bytes ≡ none)
-  none-met = stages-none bytes room room′ accepted
+  none-met : (opened bytes ≡ none) × (counted bytes ≡ none) × (playersIn ws ≤ countsRoom) × (cells (countsIn ws) ≤ payoffsRoom) × (rest bytes ≡ none)
+  none-met = stages-none bytes countsRoom payoffsRoom accepted
 
-  opening-read : (dueRefusal ws 0 0 ≡ none) × (payloadAt ws 0 ≡ 256 + playersIn ws) × (0 < playersIn ws) × (playersIn ws ≤ maxPlayers)
-  opening-read = opening-law ws .0 (then-none (lengthRefusal bytes) (openingRefusal ws) .0 (none-met .0) .1)
+  opening-read : (dueFault ws 0 0 ≡ none) × (payloadAt ws 0 ≡ 256 + playersIn ws) × (0 < playersIn ws) × (playersIn ws ≤ maxPlayers)
+  opening-read = opening-law ws .0 (then-none (lengthFault bytes) (openingFault ws) .0 (none-met .0) .1)
 
   even : length bytes % 4 ≡ 0
-  even = length-law bytes .0 (then-none (lengthRefusal bytes) (openingRefusal ws) .0 (none-met .0) .0)
+  even = length-law bytes .0 (then-none (lengthFault bytes) (openingFault ws) .0 (none-met .0) .0)
 
   counts-read : (each (countFault ws) (below (playersIn ws)) ≡ none) × (when (ltb maxCells (cells (countsIn ws))) TooManyCells ≡ none)
   counts-read = then-none (each (countFault ws) (below (playersIn ws))) (when (ltb maxCells (cells (countsIn ws))) TooManyCells) .0 (none-met .1)
 
-  count-read : (p : ℕ) → p < playersIn ws → (dueRefusal ws (1 + p) 1 ≡ none) × (countRefusal (payloadAt ws (1 + p)) ≡ none)
+  count-read : (p : ℕ) → p < playersIn ws → (dueFault ws (1 + p) 1 ≡ none) × (countRefusal (payloadAt ws (1 + p)) ≡ none)
   count-read p h = count-fault-law ws p .0 (none-each (playersIn ws) (countFault ws) (counts-read .0) p h)
 
-  rest-read : (each (λ i. cellFault ws (cellPlace ws i)) (below (cells (countsIn ws))) ≡ none) × (closingRefusal ws (cellPlace ws (cells (countsIn ws))) ≡ none)
+  rest-read : (each (λ i. cellFault ws (cellPlace ws i)) (below (cells (countsIn ws))) ≡ none) × (closingFault ws (cellPlace ws (cells (countsIn ws))) ≡ none)
   rest-read =
-      then-none (each (λ i. cellFault ws (cellPlace ws i)) (below (cells (countsIn ws)))) (closingRefusal ws (cellPlace ws (cells (countsIn ws)))) .0
+      then-none (each (λ i. cellFault ws (cellPlace ws i)) (below (cells (countsIn ws)))) (closingFault ws (cellPlace ws (cells (countsIn ws)))) .0
       (none-met .4)
 
   cell-read : (i : ℕ) → i < cells (countsIn ws) → Cell ws (cellPlace ws i)
@@ -295,3 +292,12 @@ module _ (bytes : List ℕ) (B : Bytes bytes) (room room′ : ℕ) (accepted : r
   unfolding deposit
   write-back =
       ap bytesOf (layout-once (countsIn ws) (payoffsIn ws) (layout (countsIn ws) (payoffsIn ws)) layout-read) ∙ bytes-back bytes B even
+
+-- so no two files hold one table
+pub one-file : (bytes other : List ℕ) (a b c d : ℕ) → Bytes bytes → Bytes other → (table : List ℕ × List Float)
+    → tableOf bytes a b ≡ values table → tableOf other c d ≡ values table → bytes ≡ other
+unfolding tableOf
+one-file bytes other a b c d B O table h k =
+    let (r, e) = told-values (readRefusal bytes a b) (countsIn (wordsOf bytes), payoffsIn (wordsOf bytes)) table (sym h) in
+    let (s, f) = told-values (readRefusal other c d) (countsIn (wordsOf other), payoffsIn (wordsOf other)) table (sym k) in
+    sym (write-back bytes B a b r) ∙ ap (λ (t : List ℕ × List Float). deposit (t .0) (t .1)) (sym e ∙ f) ∙ write-back other O c d s

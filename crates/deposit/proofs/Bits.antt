@@ -1,11 +1,11 @@
 -- Which bits are a finite f64's, and that the three parts of an f64's bits are its bits (`bits-parts`). Assumes nothing.
-use mathlib.Core.Path.{_≡_, refl, sym, ap, _∙_, subst}
+use mathlib.Core.Path.{_≡_, refl, sym, subst}
 use mathlib.Core.Bool.{Bool, true, false, not, cond}
-use Prim.Native.Nat.{ℕ, zero, suc, _+_, _*_, _/_, _%_, _^_, _<_, _≤_}
+use Prim.Native.Nat.{ℕ, zero, suc, _+_, _*_, _/_, _%_, _^_, _<_}
 use native.Mathlib.Omega.{arith}
 use lib.Dec.{T, eqb}
-use lib.Ieee.{Float, nan, inf, fin, binary64, odd, ofFields, ofBits, toBits, isNan, nanBits, fits}
-use lib.Ieee.Bits.{ofBits-toBits, toBits-ofBits, toBits-lt, nanBits-is}
+use lib.Ieee.{Float, nan, inf, fin, binary64, odd, ofFields, ofBits, toBits, isNan, nanBits}
+use lib.Ieee.Bits.{toBits-ofBits, nanBits-is}
 use Rattle.utility.specs.Order.{finite}
 
 odd-finite : (d : ℕ) (s : Bool) (q k l : ℕ) → finite (odd d s q k l) ≡ true
@@ -33,7 +33,8 @@ pub bits-finite : (b : ℕ) → finite (ofBits binary64 b) ≡ not (eqb (b % 2 ^
 unfolding ofBits
 bits-finite b = fields-finite _ (b % 2 ^ 63 / 2 ^ 52) (b % 2 ^ 52)
 
-finite-no-nan : (x : Float) → T (finite x) → T (not (isNan x))
+-- a finite f64 is no NaN
+pub finite-no-nan : (x : Float) → T (finite x) → T (not (isNan x))
 unfolding finite isNan
 finite-no-nan nan h = absurd h
 finite-no-nan (inf s) h = absurd h
@@ -43,17 +44,10 @@ finite-no-nan (fin s m e) h = tt
 pub bits-no-nan : (b : ℕ) → T (finite (ofBits binary64 b)) → T (not (nanBits binary64 b))
 bits-no-nan b h = subst (λ (t : Bool). T (not t)) (sym (nanBits-is binary64 b)) (finite-no-nan (ofBits binary64 b) h)
 
--- and a finite f64 has bits
-pub finite-has-bits : (x : Float) → T (finite x) → T (not (isNan x))
-finite-has-bits x h = finite-no-nan x h
-
 -- ---- an f64 and its bits
 
 pub bits-there : (b : ℕ) → b < 2 ^ 64 → T (finite (ofBits binary64 b)) → toBits binary64 (ofBits binary64 b) ≡ b
 bits-there b l h = toBits-ofBits binary64 b l (finite-no-nan (ofBits binary64 b) h)
-
-pub bits-below : (x : Float) → T (fits binary64 x) → toBits binary64 x < 2 ^ 64
-bits-below x h = toBits-lt binary64 x h
 
 -- ---- the three parts
 

@@ -1,10 +1,10 @@
 -- A table's file has its layout (`layout`), and no other list of words has it (`layout-once`). Assumes nothing.
-use mathlib.Core.Path.{_≡_, refl, sym, ap, _∙_}
-use mathlib.Core.List.{List, [], _∷_, _++_, map, flatMap}
-use mathlib.Core.Logic.{_⊎_, inl, inr, ⊎-elim}
+use mathlib.Core.Path.{_≡_, sym, ap, _∙_}
+use mathlib.Core.List.{List, _++_, map, flatMap}
+use mathlib.Core.Logic.{_⊎_, ⊎-elim}
 use Prim.Native.Nat.{ℕ, suc, _+_, _*_, _-_, _/_, _%_, _<_, _≤_}
 use native.Mathlib.Omega.{arith}
-use lib.ListN.{length, getD, length-map, length-append, List·getD-append}
+use lib.ListN.{length, getD, length-map, List·getD-append}
 use lib.Seq.{ext-getD, getD-append-add}
 use lib.Ieee.{Float, nan}
 use Rattle.game.proofs.Finite.{le-or-lt}
@@ -13,7 +13,7 @@ use Rattle.words.specs.Words.{word, closed}
 use Rattle.words.proofs.Words.{closed-length, closed-before, closed-last}
 use Rattle.deposit.specs.Deposit.{payoffWords}
 use Rattle.deposit.specs.Meaning.{wordsBefore, Layout}
-use Rattle.deposit.proofs.Puts.{words-three, payoffs-words}
+use Rattle.deposit.proofs.Puts.{words-three}
 use Rattle.deposit.proofs.Writer.{body, body-length}
 
 module _ (counts : List ℕ) (payoffs : List Float) where

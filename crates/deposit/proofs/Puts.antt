@@ -6,7 +6,7 @@ use Prim.Native.Nat.{ℕ, suc, _+_, _*_, _/_, _%_, _^_, _<_, _≤_}
 use native.Mathlib.Nat.{add-zero, zero-add, add-suc, suc-add}
 use native.Mathlib.Numerals.{add-one}
 use native.Mathlib.Omega.{arith}
-use lib.ListN.{length, getD, set, take, drop, length-map, length-append}
+use lib.ListN.{length, getD, set, take, drop, length-map}
 use lib.Seq.{sets, sets-eq, length-sets, take-suc, length-take-le}
 use lib.Ieee.{Float, nan}
 use Rattle.game.proofs.Finite.{flatMap-last, length-flatMap, sum-equal}

@@ -13,27 +13,23 @@ use Rattle.refusal.specs.Refusal.{Refusal, numberOf, when, _then_, each}
 use Rattle.refusal.specs.Told.{values, refused}
 use Rattle.refusal.specs.declared.NormalFormError.{NormalFormError}
 use Rattle.refusal.specs.declared.NormalFormError.the-variants.{TooManyCells, OutputTooShort}
-use Rattle.refusal.proofs.Refusal.{when-none, then-none}
+use Rattle.refusal.proofs.Refusal.{when-none, then-none, then-assoc}
 use Rattle.table.specs.Limits.{maxCells}
 use Rattle.table.specs.Table.{cells}
 use Rattle.table.specs.Outputs.{over}
 use Rattle.words.specs.Words.{wordsOf}
-use Rattle.words.specs.Faults.{lengthRefusal, closingRefusal}
-use Rattle.deposit.specs.Deposit.{playersIn, countsIn, payoffsIn, openingRefusal, countFault, cellFault, wordsRefusal, readRefusal, tableOf}
+use Rattle.words.specs.Faults.{lengthFault, closingFault}
+use Rattle.deposit.specs.Deposit.{playersIn, countsIn, payoffsIn, openingFault, countFault, cellFault, wordsFault, readRefusal, tableOf}
 use Rattle.deposit.specs.Answers.{readAnswer, readCounts, readPayoffs}
 use Rattle.deposit.proofs.Tables.{counts-length}
 
-then-assoc : (a b c : Refusal) → ((a then b) then c) ≡ (a then b then c)
-then-assoc none b c = refl
-then-assoc (some e) b c = refl
-
 -- the cells from the place after P counts on, n of them, and the closing word
 abbrev pub restFrom : List ℕ → ℕ → ℕ → Refusal
-restFrom ws p n = each (λ i. cellFault ws (1 + p + 3 * i)) (below n) then closingRefusal ws (1 + p + 3 * n)
+restFrom ws p n = each (λ i. cellFault ws (1 + p + 3 * i)) (below n) then closingFault ws (1 + p + 3 * n)
 
 module _ (bytes : List ℕ) where
   abbrev pub opened : Refusal
-  opened = lengthRefusal bytes then openingRefusal (wordsOf bytes)
+  opened = lengthFault bytes then openingFault (wordsOf bytes)
 
   abbrev pub counted : Refusal
   counted = let ws = wordsOf bytes in each (countFault ws) (below (playersIn ws)) then when (ltb maxCells (cells (countsIn ws))) TooManyCells
@@ -46,14 +42,14 @@ module _ (bytes : List ℕ) where
     room = when (ltb a (playersIn (wordsOf bytes))) OutputTooShort then when (ltb b (cells (countsIn (wordsOf bytes)))) OutputTooShort then rest
 
     pub stages : readRefusal bytes a b ≡ (opened then counted then room)
-    unfolding readRefusal wordsRefusal
+    unfolding readRefusal wordsFault
     stages =
         let ws = wordsOf bytes in
         let counts = each (countFault ws) (below (playersIn ws)) in
         let many = when (ltb maxCells (cells (countsIn ws))) TooManyCells in
         sym
         (ap (λ (r : Refusal). opened then r) (then-assoc counts many room)
-        ∙ then-assoc (lengthRefusal bytes) (openingRefusal ws) (counts then many then room))
+        ∙ then-assoc (lengthFault bytes) (openingFault ws) (counts then many then room))
 
     pub bad-opening : (e : NormalFormError) → opened ≡ some e → readRefusal bytes a b ≡ some e
     bad-opening e h = stages ∙ rw h refl

@@ -1,22 +1,11 @@
 -- What the reader and the writer answer, and what their outputs hold afterwards: the definitions that the contracts name. Assumes nothing.
-use mathlib.Core.List.{List, []}
+use mathlib.Core.List.{List}
 use Prim.Native.Nat.{ℕ}
 use lib.ListN.{length}
 use lib.Ieee.{Float}
-use Rattle.refusal.specs.Told.{Told, values, refused}
-use Rattle.table.specs.Outputs.{over}
+use Rattle.refusal.specs.Told.{Told, toldOf}
+use Rattle.table.specs.Outputs.{writtenOf, over}
 use Rattle.deposit.specs.Deposit.{fileOf, tableOf}
-
-module _ {A : Type 0} where
-  -- what is told of the value, or the same refusal
-  abbrev pub toldOf : {B : Type 0} → (A → B) → Told A → Told B
-  toldOf f (values v) = values (f v)
-  toldOf f (refused e) = refused e
-
-  -- what is written of the value: nothing where it is refused
-  abbrev pub writtenOf : {B : Type 0} → (A → List B) → Told A → List B
-  writtenOf f (values v) = f v
-  writtenOf f (refused e) = []
 
 -- ---- the reader: from the file's bytes, and what the two outputs held
 

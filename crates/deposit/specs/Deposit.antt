@@ -9,13 +9,14 @@ use lib.Ieee.{Float, binary64, ofBits, toBits}
 use Rattle.game.specs.Finite.{below}
 use Rattle.refusal.specs.Refusal.{Refusal, when, _then_, each}
 use Rattle.refusal.specs.Told.{Told, unless}
-use Rattle.refusal.specs.declared.NormalFormError.the-variants.{NoPlayers, TooManyPlayers, TooManyCells, NonFiniteUtility, OutputTooShort, WrongPayload}
+use Rattle.refusal.specs.declared.NormalFormError.the-variants.{NoPlayers, TooManyPlayers, TooManyCells, NonFiniteUtility, WrongPayload}
 use Rattle.utility.specs.Order.{finite}
 use Rattle.table.specs.Limits.{maxPlayers, maxCells}
 use Rattle.table.specs.Table.{cells}
 use Rattle.table.specs.Checks.{countRefusal, tableRefusal}
+use Rattle.table.specs.Outputs.{shortRefusal}
 use Rattle.words.specs.Words.{word, payloadAt, bytesOf, closed, wordsOf}
-use Rattle.words.specs.Faults.{lengthRefusal, dueRefusal, closingRefusal}
+use Rattle.words.specs.Faults.{lengthFault, dueFault, closingFault}
 
 -- ---- from a table to bytes
 
@@ -27,11 +28,10 @@ payoffWords x = let b = toBits binary64 x in word 2 (b / 2 ^ 60) ∷ word 2 (b /
 unfoldable pub deposit : List ℕ → List Float → List ℕ
 deposit counts payoffs = bytesOf (closed (word 0 (256 + length counts) ∷ map (word 1) counts ++ flatMap payoffWords payoffs))
 
--- its bytes, or 1 to 7, then 13 where the output has fewer than it needs
+-- its bytes, or 1 to 7, then 13, for an output with room for so many bytes
 unfoldable pub fileOf : List ℕ → List Float → ℕ → Told (List ℕ)
-fileOf counts payoffs room =
-    let file = deposit counts payoffs in
-    unless (tableRefusal counts payoffs then when (ltb room (length file)) OutputTooShort) file
+fileOf counts payoffs bytesRoom =
+    let file = deposit counts payoffs in unless (tableRefusal counts payoffs then shortRefusal (length file) bytesRoom) file
 
 -- ---- from bytes to a table
 
@@ -58,43 +58,44 @@ module _ (ws : List ℕ) where
 
   -- ---- its faults
 
-  -- the opening word: its payload divided by 256 isn't 1 (19), P is 0 (1), P over 8 (2)
-  unfoldable pub openingRefusal : Refusal
-  openingRefusal =
-      dueRefusal ws 0 0
+  -- the opening word: its payload divided by 256 isn't 1 (19), P is 0 (1), P over the limit (2)
+  unfoldable pub openingFault : Refusal
+  openingFault =
+      dueFault ws 0 0
       then when (not (eqb (payloadAt ws 0 / 256) 1)) WrongPayload
       then when (eqb playersIn 0) NoPlayers
       then when (ltb maxPlayers playersIn) TooManyPlayers
 
   -- player p's count word: 3 or 4
   unfoldable pub countFault : ℕ → Refusal
-  countFault p = dueRefusal ws (1 + p) 1 then countRefusal (payloadAt ws (1 + p))
+  countFault p = dueFault ws (1 + p) 1 then countRefusal (payloadAt ws (1 + p))
 
   -- a cell's three words, from a place on: the first payload over 15 (19), and after the third word a NaN or an infinity (7)
   unfoldable pub cellFault : ℕ → Refusal
   cellFault place =
-      dueRefusal ws place 2
+      dueFault ws place 2
       then when (ltb 15 (payloadAt ws place)) WrongPayload
-      then dueRefusal ws (place + 1) 2
-      then dueRefusal ws (place + 2) 2
+      then dueFault ws (place + 1) 2
+      then dueFault ws (place + 2) 2
       then when (not (finite (payoffIn place))) NonFiniteUtility
 
   -- left to right: the opening word, the counts, then 5, then 13 when either output is short, the cells, the closing word
-  unfoldable pub wordsRefusal : ℕ → ℕ → Refusal
-  wordsRefusal room room′ =
+  unfoldable pub wordsFault : ℕ → ℕ → Refusal
+  wordsFault countsRoom payoffsRoom =
       let n = cells countsIn in
-      openingRefusal
+      openingFault
       then each countFault (below playersIn)
       then when (ltb maxCells n) TooManyCells
-      then when (ltb room playersIn) OutputTooShort
-      then when (ltb room′ n) OutputTooShort
+      then shortRefusal playersIn countsRoom
+      then shortRefusal n payoffsRoom
       then each (λ i. cellFault (cellPlace i)) (below n)
-      then closingRefusal ws (cellPlace n)
+      then closingFault ws (cellPlace n)
 
 -- the length first, then the words
 unfoldable pub readRefusal : List ℕ → ℕ → ℕ → Refusal
-readRefusal bytes room room′ = lengthRefusal bytes then wordsRefusal (wordsOf bytes) room room′
+readRefusal bytes countsRoom payoffsRoom = lengthFault bytes then wordsFault (wordsOf bytes) countsRoom payoffsRoom
 
--- the table of a file, or its first fault; there is room for so many counts and so many payoffs
+-- the table of a file, or its first fault, for outputs with room for so many counts and payoffs
 unfoldable pub tableOf : List ℕ → ℕ → ℕ → Told (List ℕ × List Float)
-tableOf bytes room room′ = let ws = wordsOf bytes in unless (readRefusal bytes room room′) (countsIn ws, payoffsIn ws)
+tableOf bytes countsRoom payoffsRoom =
+    let ws = wordsOf bytes in unless (readRefusal bytes countsRoom payoffsRoom) (countsIn ws, payoffsIn ws)

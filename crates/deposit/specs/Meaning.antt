@@ -1,4 +1,4 @@
--- What a deposit's words are, place by place. Assumes nothing.
+-- What a deposit's words are, place by place, and what a slice of payoffs holds. Assumes nothing.
 use mathlib.Core.Path.{_≡_}
 use mathlib.Core.List.{List}
 use Prim.Native.Nat.{ℕ, _+_, _*_, _<_}

@@ -1,4 +1,4 @@
--- What an output holds after words were put into it. Assumes nothing.
+-- What an output holds after words were put into it, for the contracts of the writer's inner functions. Assumes nothing.
 use mathlib.Core.List.{List}
 use Prim.Native.Nat.{ℕ, _*_}
 use lib.Seq.{sets}

@@ -3,20 +3,18 @@
 use refusal::NormalFormError;
 use refusal::UnitResult;
 use refusal::UsizeResult;
-use table::MAX_CELLS;
 use table::MAX_PLAYERS;
 use table::MAX_STRATEGIES;
 use words::CLOSING;
 use words::PAYLOADS;
-use words::WORD;
+use words::WORD_BYTES;
 ghost use mathlib.Core.Path.{_≡_};
-ghost use mathlib.Core.Bool.{not};
 ghost use mathlib.Core.List.{[], _∷_, map, flatMap};
 ghost use mathlib.Core.Option.{none};
 ghost use Prim.Native.Nat.{ℕ, suc, _+_, _*_, _/_, _%_, _^_, _≤_, _<_};
 ghost use lib.Dec.{T, ltb};
-ghost use lib.ListN.{length, getD};
-ghost use lib.Ieee.{nan, binary64, toBits};
+ghost use lib.ListN.{length};
+ghost use lib.Ieee.{binary64, toBits};
 ghost use Rattle.game.specs.Finite.{below};
 ghost use Rattle.refusal.specs.Refusal.{when, _then_, each};
 ghost use Rattle.refusal.specs.declared.NormalFormError.the-variants.{TooManyCells};
@@ -28,8 +26,8 @@ ghost use Rattle.table.specs.Meaning.{Shape, Finites};
 ghost use Rattle.table.specs.Outputs.{over};
 ghost use Rattle.words.specs.Words.{word, payloadAt, wordsOf};
 ghost use Rattle.deposit.specs.Put.{wordsPut};
-ghost use Rattle.words.specs.Faults.{lengthRefusal, closingRefusal};
-ghost use Rattle.deposit.specs.Deposit.{payoffWords, playersIn, countsIn, payoffIn, payoffsIn, cellPlace, openingRefusal, countFault, cellFault};
+ghost use Rattle.words.specs.Faults.{lengthFault, closingFault};
+ghost use Rattle.deposit.specs.Deposit.{payoffWords, playersIn, countsIn, payoffIn, payoffsIn, cellPlace, openingFault, countFault, cellFault};
 ghost use Rattle.deposit.specs.Answers.{readAnswer, readCounts, readPayoffs, writeAnswer, writeBytes};
 
 // The kinds of an opening word, a count and a part of a payoff.
@@ -39,7 +37,7 @@ const COUNT: u32 = 1;
 
 const CELL: u32 = 2;
 
-// The edition, which the opening payload has in front of P, and the numbers that P may have there.
+// The opening payload is EDITION × PLAYER_NUMBERS + P.
 const EDITION: usize = 1;
 
 const PLAYER_NUMBERS: usize = 256;
@@ -53,7 +51,7 @@ const FIRST_LARGEST: usize = 15;
 
 // P, or 17 of the length, and 17, 18, 19, 1 or 2 of the opening word.
 fn opening(bytes: &[u8]) -> UsizeResult
-    ensures { λ r. ⌜ toldUsize r ≡ unless (lengthRefusal (now (bytes .entry)) then openingRefusal (wordsOf (now (bytes .entry)))) (playersIn (wordsOf (now (bytes .entry)))) ⌝ }
+    ensures { λ r. ⌜ toldUsize r ≡ unless (lengthFault (now (bytes .entry)) then openingFault (wordsOf (now (bytes .entry)))) (playersIn (wordsOf (now (bytes .entry)))) ⌝ }
 {
     match words::whole(bytes) {
         UnitResult::Err(e) => UsizeResult::Err(e),
@@ -117,6 +115,14 @@ fn cell_count(bytes: &[u8], players: usize) -> UsizeResult
     }
 }
 
+// A payoff's bits, of their three parts.
+fn joined_bits(top: usize, next: usize, last: usize) -> usize
+    requires { ⌜ (top ≤ 15) × (next < 2 ^ 30) × (last < 2 ^ 30) ⌝ }
+    ensures { λ r. ⌜ r ≡ top * 2 ^ 60 + next * 2 ^ 30 + last ⌝ }
+{
+    top * 0x1000000000000000 + next * 0x40000000 + last
+}
+
 // The first fault of a cell's three words: 17, 18, 19 or 7.
 fn check_cell(bytes: &[u8], place: usize) -> UnitResult
     requires { ⌜ place ≤ suc maxPlayers + 3 * maxCells ⌝ }
@@ -133,12 +139,9 @@ fn check_cell(bytes: &[u8], place: usize) -> UnitResult
                 UsizeResult::Ok(next) => match words::due(bytes, place + 2, CELL) {
                     UsizeResult::Err(e) => UnitResult::Err(e),
                     UsizeResult::Ok(last) => {
-                        // the exponent's field of a NaN or an infinity
-                        if (top * 0x1000000000000000 + next * 0x40000000 + last)
-                            % 0x8000000000000000
-                            / 0x10000000000000
-                            == 0x7ff
-                        {
+                        // no NaN can be made of bits, so the exponent's field is asked
+                        let bits = joined_bits(top, next, last);
+                        if bits % 0x8000000000000000 / 0x10000000000000 == 0x7ff {
                             return UnitResult::Err(NormalFormError::NonFiniteUtility);
                         }
                         UnitResult::Ok
@@ -149,7 +152,7 @@ fn check_cell(bytes: &[u8], place: usize) -> UnitResult
     }
 }
 
-// The first fault of as many cells, from a place on.
+// The first fault of the cells from a place on.
 fn check_cells(bytes: &[u8], start: usize, cells: usize) -> UnitResult
     requires { ⌜ (start ≤ suc maxPlayers) × (cells ≤ maxCells) ⌝ }
     ensures { λ r. ⌜ toldUnit r ≡ unless (each (λ i. cellFault (wordsOf (now (bytes .entry))) (start + 3 * i)) (below cells)) tt ⌝ }
@@ -168,7 +171,7 @@ fn check_cells(bytes: &[u8], start: usize, cells: usize) -> UnitResult
 // The first fault of the cells and of the closing word.
 fn check_rest(bytes: &[u8], players: usize, cells: usize) -> UnitResult
     requires { ⌜ (players ≤ maxPlayers) × (cells ≤ maxCells) ⌝ }
-    ensures { λ r. ⌜ toldUnit r ≡ unless (each (λ i. cellFault (wordsOf (now (bytes .entry))) (1 + players + 3 * i)) (below cells) then closingRefusal (wordsOf (now (bytes .entry))) (1 + players + 3 * cells)) tt ⌝ }
+    ensures { λ r. ⌜ toldUnit r ≡ unless (each (λ i. cellFault (wordsOf (now (bytes .entry))) (1 + players + 3 * i)) (below cells) then closingFault (wordsOf (now (bytes .entry))) (1 + players + 3 * cells)) tt ⌝ }
 {
     match check_cells(bytes, 1 + players, cells) {
         UnitResult::Err(e) => UnitResult::Err(e),
@@ -197,7 +200,7 @@ fn payoff_at(bytes: &[u8], place: usize) -> f64
     let top = words::part(bytes, place, CELL);
     let next = words::part(bytes, place + 1, CELL);
     let last = words::part(bytes, place + 2, CELL);
-    f64::from_bits((top * 0x1000000000000000 + next * 0x40000000 + last) as u64)
+    f64::from_bits(joined_bits(top, next, last) as u64)
 }
 
 // Writes the payoffs of cells that have no fault.
@@ -252,7 +255,7 @@ fn put_word(bytes: &mut [u8], place: usize, kind: u32, payload: u32)
     ensures { λ _. ⌜ now (bytes .exit) ≡ wordsPut (now (bytes .entry)) place (word kind payload ∷ []) ⌝ }
 {
     let word = kind * PAYLOADS + payload;
-    let at = WORD * place;
+    let at = WORD_BYTES * place;
     bytes[at] = (word / 0x1000000) as u8;
     bytes[at + 1] = (word / 0x10000 % 0x100) as u8;
     bytes[at + 2] = (word / 0x100 % 0x100) as u8;
@@ -271,8 +274,8 @@ fn write_counts(counts: &[usize], bytes: &mut [u8])
     }
 }
 
-// The second and the third word of a finite payoff, as one number. The test is always passed; it makes the number one to the compiler too, which
-// so stores the eight bytes at once, and would else make each by itself.
+// The second and the third word of a finite payoff, as one number. The test is always passed: behind it the number is one value to the compiler,
+// which then stores its eight bytes at once, and not one by one.
 fn pair(x: f64) -> u64
     requires { ⌜ T (finite x) ⌝ }
     ensures { λ r. ⌜ r ≡ word 2 (toBits binary64 x / 2 ^ 30 % 2 ^ 30) * 2 ^ 32 + word 2 (toBits binary64 x % 2 ^ 30) ⌝ }
@@ -290,7 +293,7 @@ fn put_pair(bytes: &mut [u8], place: usize, pair: u64)
     requires { ⌜ 4 * place + 8 ≤ length (now bytes) ⌝ }
     ensures { λ _. ⌜ now (bytes .exit) ≡ wordsPut (now (bytes .entry)) place (pair / 2 ^ 32 ∷ pair % 2 ^ 32 ∷ []) ⌝ }
 {
-    let at = WORD * place;
+    let at = WORD_BYTES * place;
     bytes[at] = (pair / 0x100000000000000) as u8;
     bytes[at + 1] = (pair / 0x1000000000000 % 0x100) as u8;
     bytes[at + 2] = (pair / 0x10000000000 % 0x100) as u8;
@@ -333,7 +336,7 @@ pub fn write(counts: &[usize], payoffs: &[f64], bytes: &mut [u8]) -> UsizeResult
         UsizeResult::Ok(_) => {
             let start = 1 + counts.len();
             let last = start + CELL_WORDS * payoffs.len();
-            let size = WORD * (last + 1);
+            let size = WORD_BYTES * (last + 1);
             if bytes.len() < size {
                 return UsizeResult::Err(NormalFormError::OutputTooShort);
             }

@@ -1,39 +1,30 @@
 -- What each of two calls tells the next one. Reading what was written is `read-back`, and writing what was read `write-back`, of `deposit`.
 -- Assumes nothing.
 use mathlib.Core.Path.{_≡_, refl, sym, ap, _∙_}
-use mathlib.Core.List.{List, [], _++_}
+use mathlib.Core.List.{List}
 use mathlib.Core.Option.{none, some}
-use Prim.Native.Nat.{ℕ, _-_, _*_, _<_, _≤_}
+use Prim.Native.Nat.{ℕ, _-_, _≤_}
 use native.Mathlib.Omega.{arith}
 use borrow.Author.Tests.{le-ltb, ltb-false}
 use lib.Dec.{ltb}
-use lib.ListN.{length, take, drop, length-append}
+use lib.ListN.{length, take, drop}
 use lib.Seq.{take-at}
 use lib.Ieee.{Float}
-use Rattle.refusal.specs.Refusal.{Refusal, numberOf, _then_, when}
-use Rattle.refusal.specs.Told.{Told, values, refused, unless}
+use Rattle.refusal.specs.Refusal.{Refusal, _then_, when}
+use Rattle.refusal.specs.Told.{Told, values, refused, toldOf}
 use Rattle.refusal.specs.declared.NormalFormError.{NormalFormError}
 use Rattle.refusal.specs.declared.NormalFormError.the-variants.{OutputTooShort}
 use Rattle.refusal.proofs.Refusal.{some-none, when-none, then-none}
-use Rattle.refusal.proofs.Told.{told-values, told-refused}
-use Rattle.table.specs.Table.{cells}
-use Rattle.table.specs.Meaning.{Table}
+use Rattle.refusal.proofs.Told.{told-values, told-refused, told-of}
 use Rattle.table.specs.Checks.{tableRefusal}
-use Rattle.table.specs.Outputs.{over}
+use Rattle.table.specs.Outputs.{writtenOf, over}
 use Rattle.table.proofs.Checks.{table-law}
 use Rattle.words.specs.Words.{Bytes, wordsOf}
-use Rattle.deposit.specs.Deposit.{deposit, fileOf, countsIn, payoffsIn, playersIn, readRefusal, tableOf}
+use Rattle.deposit.specs.Deposit.{deposit, fileOf, countsIn, payoffsIn, readRefusal, tableOf}
 use Rattle.deposit.specs.Meaning.{Doubles}
-use Rattle.deposit.specs.Answers.{toldOf, writtenOf, readAnswer, readCounts, readPayoffs, writeAnswer, writeBytes}
-use Rattle.deposit.proofs.Reader.{read-accepted}
-use Rattle.deposit.proofs.Tables.{counts-length, payoffs-length}
-use Rattle.deposit.proofs.Writer.{write-accepted}
+use Rattle.deposit.specs.Answers.{readAnswer, readCounts, readPayoffs, writeAnswer, writeBytes}
 use Rattle.deposit.proofs.Back.{read-back, table-read, write-back}
 use Rattle.round_trips.specs.RoundTrips.{writtenRead, readWritten}
-
-told-of : {A B : Type 0} (f : A → B) (r : Refusal) (a : A) → toldOf f (unless r a) ≡ unless r (f a)
-told-of f none a = refl
-told-of f (some e) a = refl
 
 first-of : (a b c : Refusal) (e : NormalFormError) → (a then b) ≡ some e → (a then b then c) ≡ some e
 first-of none none c e h = absurd (some-none e (sym h))

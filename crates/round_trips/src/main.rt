@@ -9,9 +9,9 @@ use cases::told_usize;
 use refusal::UsizeResult;
 ghost use mathlib.Core.Path.{_≡_};
 ghost use lib.ListN.{length};
-ghost use Rattle.refusal.specs.Told.{toldUsize};
-ghost use Rattle.table.specs.Outputs.{over};
-ghost use Rattle.deposit.specs.Answers.{toldOf, writtenOf, readCounts, readPayoffs, writeBytes};
+ghost use Rattle.refusal.specs.Told.{toldUsize, toldOf};
+ghost use Rattle.table.specs.Outputs.{writtenOf, over};
+ghost use Rattle.deposit.specs.Answers.{readCounts, readPayoffs, writeBytes};
 ghost use Rattle.round_trips.specs.RoundTrips.{writtenRead, readWritten};
 
 // A call of `write`, and then one of `read` on what it wrote: the table comes back.
@@ -67,7 +67,8 @@ fn all_bytes(bytes: &[u8]) {
     }
 }
 
-fn main() {
+// The prisoner's dilemma, and its file of 112 bytes.
+fn dilemma() {
     let counts = [2usize; 2];
     let payoffs = [2.0, 2.0, 0.0, 3.0, 3.0, 0.0, 1.0, 1.0];
     let mut file = [0u8; 112];
@@ -83,28 +84,38 @@ fn main() {
     ));
     numbers(&counts_back);
     floats(&payoffs_back);
-    text(b"\n");
     let mut file_back = [7u8; 113];
-    text(b"its file:");
+    text(b"\nits file:");
     told_usize(read_write(&file, &mut counts_back, &mut payoffs_back, &mut file_back));
     all_bytes(&file_back);
     text(b"\n");
-    let one = [2usize; 1];
-    let zeros = [-0.0, 0.0];
-    let mut small = [0u8; 36];
+}
+
+// One player with both zeros, and its file of 36 bytes.
+fn both_zeros() {
+    let counts = [2usize; 1];
+    let payoffs = [-0.0, 0.0];
+    let mut file = [0u8; 36];
+    let mut counts_back = [7usize; 2];
+    let mut payoffs_back = [7.0; 3];
     text(b"both zeros:");
     told_usize(write_read(
-        &one,
-        &zeros,
-        &mut small,
+        &counts,
+        &payoffs,
+        &mut file,
         &mut counts_back,
         &mut payoffs_back,
     ));
     numbers(&counts_back);
     floats(&payoffs_back);
-    text(b"\n");
-    text(b"its file:");
-    told_usize(read_write(&small, &mut counts_back, &mut payoffs_back, &mut file_back));
+    let mut file_back = [7u8; 37];
+    text(b"\nits file:");
+    told_usize(read_write(&file, &mut counts_back, &mut payoffs_back, &mut file_back));
     all_bytes(&file_back);
     text(b"\n");
+}
+
+fn main() {
+    dilemma();
+    both_zeros();
 }

@@ -1,7 +1,7 @@
 -- A word is its kind and its payload (`kind-word`, `payload-word`, `word-parts`), and words and bytes give each other back (`words-back`,
 -- `bytes-back`). Each byte is a digit of its word, to the base 256. Assumes nothing.
 use mathlib.Core.Path.{_≡_, refl, sym, ap, _∙_}
-use mathlib.Core.List.{List, [], _∷_, map}
+use mathlib.Core.List.{List, [], _∷_}
 use Prim.Native.Nat.{ℕ, zero, suc, _+_, _*_, _/_, _%_, _^_, _≤_, _<_}
 use native.Mathlib.Nat.{div-add-mod', mod-lt}
 use native.Mathlib.Omega.{arith}
@@ -9,7 +9,7 @@ use lib.Arith.{digits-div, digits-mod}
 use lib.Pow.{pow-pos}
 use lib.ListN.{length, getD, length-append, length-map, List·getD-append, List·getD-eq-default}
 use lib.Seq.{ext-getD, getD-append-seam}
-use Rattle.game.specs.Finite.{below, sum}
+use Rattle.game.specs.Finite.{below}
 use Rattle.game.proofs.Finite.{length-below, length-flatMap, sum-equal}
 use Rattle.table.proofs.Offsets.{getD-map, getD-flatMap, getD-below}
 use Rattle.words.specs.Words.{word, kindOf, payloadOf, payloadAt, wordBytes, bytesOf, closed, wordAt, wordsOf, Bytes}
@@ -141,11 +141,11 @@ bytes-back bytes B e = ext-getD 0 (bytesOf (wordsOf bytes)) bytes size (λ k h. 
 
 pub closed-length : (ws : List ℕ) → length (closed ws) ≡ length ws + 1
 unfolding closed
-closed-length ws = length-append ws (word 3 (length ws) ∷ [])
+closed-length ws = length-append ws _
 
 pub closed-before : (ws : List ℕ) (i : ℕ) → i < length ws → getD (closed ws) i 0 ≡ getD ws i 0
 unfolding closed
-closed-before ws i h = List·getD-append ws (word 3 (length ws) ∷ []) 0 i h
+closed-before ws i h = List·getD-append ws _ 0 i h
 
 pub closed-last : (ws : List ℕ) → getD (closed ws) (length ws) 0 ≡ word 3 (length ws)
 unfolding closed

@@ -10,18 +10,18 @@ use Rattle.refusal.specs.declared.NormalFormError.the-variants.{MissingWord, Wr
 use Rattle.words.specs.Words.{kindOf, payloadAt}
 
 -- byte length no multiple of 4 (17)
-unfoldable pub lengthRefusal : List ℕ → Refusal
-lengthRefusal bytes = when (not (eqb (length bytes % 4) 0)) MissingWord
+unfoldable pub lengthFault : List ℕ → Refusal
+lengthFault bytes = when (not (eqb (length bytes % 4) 0)) MissingWord
 
 -- a due word is absent (17), its kind isn't the one due (18); i words stand before it
-unfoldable pub dueRefusal : List ℕ → ℕ → ℕ → Refusal
-dueRefusal ws i kind =
+unfoldable pub dueFault : List ℕ → ℕ → ℕ → Refusal
+dueFault ws i kind =
     when (not (ltb i (length ws))) MissingWord
     then when (not (eqb (kindOf (getD ws i 0)) kind)) WrongKind
 
 -- the closing word: kind 3, then its number isn't that of the i words before it (19), then a word follows it (20)
-unfoldable pub closingRefusal : List ℕ → ℕ → Refusal
-closingRefusal ws i =
-    dueRefusal ws i 3
+unfoldable pub closingFault : List ℕ → ℕ → Refusal
+closingFault ws i =
+    dueFault ws i 3
     then when (not (eqb (payloadAt ws i) i)) WrongPayload
     then when (ltb (i + 1) (length ws)) TrailingWord

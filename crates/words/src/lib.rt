@@ -9,13 +9,13 @@ ghost use Prim.Native.Nat.{_+_, _*_, _≤_, _<_};
 ghost use lib.ListN.{length};
 ghost use Rattle.refusal.specs.Told.{toldUnit, toldUsize, unless};
 ghost use Rattle.words.specs.Words.{wordAt, wordsOf, payloadAt};
-ghost use Rattle.words.specs.Faults.{lengthRefusal, dueRefusal, closingRefusal};
+ghost use Rattle.words.specs.Faults.{lengthFault, dueFault, closingFault};
 
 // How many payloads there are: 30 bits of a word.
 pub const PAYLOADS: u32 = 0x40000000;
 
 // How many bytes a word has.
-pub const WORD: usize = 4;
+pub const WORD_BYTES: usize = 4;
 
 // The kind of a closing word.
 pub const CLOSING: u32 = 3;
@@ -25,7 +25,7 @@ fn word_at(bytes: &[u8], place: usize) -> u32
     requires { ⌜ 4 * place + 4 ≤ length (now bytes) ⌝ }
     ensures { λ r. ⌜ r ≡ wordAt (now (bytes .entry)) place ⌝ }
 {
-    let at = WORD * place;
+    let at = WORD_BYTES * place;
     let a = bytes[at] as u32;
     let b = bytes[at + 1] as u32;
     let c = bytes[at + 2] as u32;
@@ -37,7 +37,7 @@ fn word_at(bytes: &[u8], place: usize) -> u32
 pub fn payload(bytes: &[u8], place: usize) -> usize
     ensures { λ r. ⌜ r ≡ payloadAt (wordsOf (now (bytes .entry))) place ⌝ }
 {
-    if place < bytes.len() / WORD {
+    if place < bytes.len() / WORD_BYTES {
         (word_at(bytes, place) % PAYLOADS) as usize
     } else {
         0
@@ -46,9 +46,9 @@ pub fn payload(bytes: &[u8], place: usize) -> usize
 
 // Whether the bytes are whole words, or 17.
 pub fn whole(bytes: &[u8]) -> UnitResult
-    ensures { λ r. ⌜ toldUnit r ≡ unless (lengthRefusal (now (bytes .entry))) tt ⌝ }
+    ensures { λ r. ⌜ toldUnit r ≡ unless (lengthFault (now (bytes .entry))) tt ⌝ }
 {
-    if bytes.len() % WORD != 0 {
+    if bytes.len() % WORD_BYTES != 0 {
         return UnitResult::Err(NormalFormError::MissingWord);
     }
     UnitResult::Ok
@@ -56,9 +56,9 @@ pub fn whole(bytes: &[u8]) -> UnitResult
 
 // The payload of the word that is due at a place, or 17 where it is absent, or 18 where its kind isn't the one due.
 pub fn due(bytes: &[u8], place: usize, kind: u32) -> UsizeResult
-    ensures { λ r. ⌜ toldUsize r ≡ unless (dueRefusal (wordsOf (now (bytes .entry))) place kind) (payloadAt (wordsOf (now (bytes .entry))) place) ⌝ }
+    ensures { λ r. ⌜ toldUsize r ≡ unless (dueFault (wordsOf (now (bytes .entry))) place kind) (payloadAt (wordsOf (now (bytes .entry))) place) ⌝ }
 {
-    if bytes.len() / WORD <= place {
+    if bytes.len() / WORD_BYTES <= place {
         return UsizeResult::Err(NormalFormError::MissingWord);
     }
     let word = word_at(bytes, place);
@@ -68,10 +68,10 @@ pub fn due(bytes: &[u8], place: usize, kind: u32) -> UsizeResult
     UsizeResult::Ok((word % PAYLOADS) as usize)
 }
 
-// The payload of the word that is due at a place: the caller proves that it is there and has the kind, and nothing is tested when it runs. The
-// word less its kind is one number to the compiler, which so loads the four bytes at once; of a remainder it would take each byte by itself.
+// The payload of the word that is due at a place. The caller proves that the word is there and has the kind; nothing is tested when it runs.
+// Less its kind the word is one value to the compiler, which then loads its four bytes at once; for a remainder it loads them one by one.
 pub fn part(bytes: &[u8], place: usize, kind: u32) -> usize
-    requires { ⌜ (kind < 4) × (dueRefusal (wordsOf (now bytes)) place kind ≡ none) ⌝ }
+    requires { ⌜ (kind < 4) × (dueFault (wordsOf (now bytes)) place kind ≡ none) ⌝ }
     ensures { λ r. ⌜ r ≡ payloadAt (wordsOf (now (bytes .entry))) place ⌝ }
 {
     (word_at(bytes, place) - kind * PAYLOADS) as usize
@@ -80,7 +80,7 @@ pub fn part(bytes: &[u8], place: usize, kind: u32) -> usize
 // Whether the word at a place closes the file: 17 or 18 as of any word that is due, 19 where its number isn't that of the words before it, 20
 // where a word follows it.
 pub fn closing(bytes: &[u8], place: usize) -> UnitResult
-    ensures { λ r. ⌜ toldUnit r ≡ unless (closingRefusal (wordsOf (now (bytes .entry))) place) tt ⌝ }
+    ensures { λ r. ⌜ toldUnit r ≡ unless (closingFault (wordsOf (now (bytes .entry))) place) tt ⌝ }
 {
     match due(bytes, place, CLOSING) {
         UsizeResult::Err(e) => UnitResult::Err(e),
@@ -88,7 +88,7 @@ pub fn closing(bytes: &[u8], place: usize) -> UnitResult
             if number != place {
                 return UnitResult::Err(NormalFormError::WrongPayload);
             }
-            if number + 1 < bytes.len() / WORD {
+            if number + 1 < bytes.len() / WORD_BYTES {
                 return UnitResult::Err(NormalFormError::TrailingWord);
             }
             UnitResult::Ok

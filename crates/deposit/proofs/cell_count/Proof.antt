@@ -7,21 +7,21 @@ use native.Mathlib.Omega.{arith}
 use borrow.Author.Count.{below-more}
 use borrow.Author.Needs.{needs}
 use lib.Dec.{ltb}
-use lib.ListN.{length, getD, take}
-use Rattle.game.specs.Finite.{product, below}
-use Rattle.refusal.specs.Refusal.{Refusal, when, each}
+use lib.ListN.{length, take}
+use Rattle.game.specs.Finite.{product}
+use Rattle.refusal.specs.Refusal.{Refusal, when}
 use Rattle.refusal.specs.declared.NormalFormError.the-variants.{TooManyCells}
-use Rattle.refusal.specs.Told.{toldUsize, refused, values, unless}
+use Rattle.refusal.specs.Told.{toldUsize, refused, unless}
 use Rattle.refusal.proofs.Refusal.{each-none, each-some}
 use Rattle.refusal.proofs.Told.{told-values, told-refused, refused-again}
-use Rattle.table.specs.Limits.{maxPlayers, maxCells}
+use Rattle.table.specs.Limits.{maxCells}
 use Rattle.table.specs.Table.{cells}
 use Rattle.table.specs.Checks.{countRefusal, countsRefusal}
 use Rattle.table.specs.Answers.{countsAnswer}
 use Rattle.table.proofs.Checks.{counts-law}
 use Rattle.table.proofs.Space.{Filled, filled-none, filled-more}
 use Rattle.words.specs.Words.{wordsOf, payloadAt}
-use Rattle.deposit.specs.Deposit.{playersIn, countsIn, countFault}
+use Rattle.deposit.specs.Deposit.{countsIn, countFault}
 use Rattle.deposit.proofs.Faults.{count-fault-law}
 use Rattle.deposit.proofs.Tables.{counts-length, counts-at, filled-counts, counts-left}
 use Rattle.deposit.proofs.cell_count.Statement.{statement}

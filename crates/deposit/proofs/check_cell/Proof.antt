@@ -15,9 +15,9 @@ use Rattle.refusal.specs.Told.{toldUsize, refused}
 use Rattle.refusal.proofs.Told.{told-values, told-refused, refused-first}
 use Rattle.utility.specs.Order.{finite}
 use Rattle.words.specs.Words.{wordsOf, payloadAt}
-use Rattle.words.specs.Faults.{dueRefusal}
+use Rattle.words.specs.Faults.{dueFault}
 use Rattle.words.proofs.Words.{payload-lt}
-use Rattle.deposit.specs.Deposit.{payoffIn, cellFault}
+use Rattle.deposit.specs.Deposit.{cellFault}
 use Rattle.deposit.proofs.Bits.{bits-finite}
 use Rattle.deposit.proofs.Faults.{payoff-bits, first-over, second-bad, third-bad, cell-read}
 use Rattle.deposit.proofs.check_cell.Statement.{statement}
@@ -47,8 +47,8 @@ module _ (c : tie.After-known-told2) where
   abbrev top : ℕ
   top = c .before .top .given .0 .0
 
-  first : (dueRefusal ws at 2 ≡ none) × (top ≡ payloadAt ws at)
-  first = told-values (dueRefusal ws at 2) (payloadAt ws at) top (sym (ap toldUsize (c .before .top .given .1)) ∙ c .before .before .before .due .ensures)
+  first : (dueFault ws at 2 ≡ none) × (top ≡ payloadAt ws at)
+  first = told-values (dueFault ws at 2) (payloadAt ws at) top (sym (ap toldUsize (c .before .top .given .1)) ∙ c .before .before .before .due .ensures)
 
 returns : tie.Need-returns
 returns c = let k = c .before in rw (first-over (ws k) (at k) (first k .0) (omega (arith, first k .1, c .if1 .taken))) refl
@@ -77,9 +77,9 @@ module _ (c : tie.After-known-told4) where
   abbrev next : ℕ
   next = c .before .next .given .0 .0
 
-  second : (dueRefusal (ws (one .before)) (at (one .before) + 1) 2 ≡ none) × (next ≡ payloadAt (ws (one .before)) (at (one .before) + 1))
+  second : (dueFault (ws (one .before)) (at (one .before) + 1) 2 ≡ none) × (next ≡ payloadAt (ws (one .before)) (at (one .before) + 1))
   second =
-      told-values (dueRefusal (ws (one .before)) (at (one .before) + 1) 2) (payloadAt (ws (one .before)) (at (one .before) + 1)) next
+      told-values (dueFault (ws (one .before)) (at (one .before) + 1) 2) (payloadAt (ws (one .before)) (at (one .before) + 1)) next
       (sym (ap toldUsize (c .before .next .given .1)) ∙ c .before .before .before .due2 .ensures)
 
 add-due-2 : tie.Need-add-due-2
@@ -105,9 +105,9 @@ module _ (c : tie.After-known-told6) where
   abbrev last : ℕ
   last = c .before .last .given .0 .0
 
-  third : (dueRefusal (ws start) (at start + 2) 2 ≡ none) × (last ≡ payloadAt (ws start) (at start + 2))
+  third : (dueFault (ws start) (at start + 2) 2 ≡ none) × (last ≡ payloadAt (ws start) (at start + 2))
   third =
-      told-values (dueRefusal (ws start) (at start + 2) 2) (payloadAt (ws start) (at start + 2)) last
+      told-values (dueFault (ws start) (at start + 2) 2) (payloadAt (ws start) (at start + 2)) last
       (sym (ap toldUsize (c .before .last .given .1)) ∙ c .before .before .before .due3 .ensures)
 
   bounds : (top start ≤ 15) × (next two < 2 ^ 30) × (last < 2 ^ 30)
@@ -123,33 +123,28 @@ module _ (c : tie.After-known-told6) where
       ∙ ap (λ (t : Bool). when (not t) NonFiniteUtility) (ap finite (payoff-bits (ws start) (at start) (top start) (next two) last (first start .1) (second two .1) (third .1)) ∙ bits-finite (top start * 2 ^ 60 + next two * 2 ^ 30 + last))
       ∙ ap (λ (t : Bool). when t NonFiniteUtility) (not-not (eqb ((top start * 2 ^ 60 + next two * 2 ^ 30 + last) % 2 ^ 63 / 2 ^ 52) 2047))
 
-mul-if2 : tie.Need-mul-if2
-mul-if2 c = omega (arith, bounds c)
+joined-bits-requires : tie.Need-joined-bits-requires
+joined-bits-requires c κs = bounds c
 
-mul-if2-2 : tie.Need-mul-if2-2
-mul-if2-2 c = omega (arith, bounds c)
-
-add-if2 : tie.Need-add-if2
-add-if2 c = omega (arith, bounds c)
-
-add-if2-2 : tie.Need-add-if2-2
-add-if2-2 c = omega (arith, bounds c)
+-- the exponent's field of the bits
+field : (c : tie.After-joined-bits) → (top (start (c .before)) * 2 ^ 60 + next (two (c .before)) * 2 ^ 30 + last (c .before)) % 2 ^ 63 / 2 ^ 52 ≡ c .joined-bits .result % 2 ^ 63 / 2 ^ 52
+field c = ap (λ (b : ℕ). b % 2 ^ 63 / 2 ^ 52) (sym (c .joined-bits .ensures))
 
 returns-2 : tie.Need-returns-2
-returns-2 c = rw (read (c .before), eq-eqb _ _ (c .if2 .taken)) refl
+returns-2 c = rw (read (c .before .before), eq-eqb _ _ (field (c .before) ∙ c .if2 .taken)) refl
 
 returns-3 : tie.Need-returns-3
 unfolding cellFault
 returns-3 c =
     let k = c .before in
     let s = k .before .before .before .before in
-    refused-first (dueRefusal (wordsOf (s .args .bytes .now)) (s .args .place) 2) _ _ _ (sym (ap toldUsize (k .e .given .1)) ∙ k .before .before .due .ensures) _
+    refused-first (dueFault (wordsOf (s .args .bytes .now)) (s .args .place) 2) _ _ _ (sym (ap toldUsize (k .e .given .1)) ∙ k .before .before .due .ensures) _
 
 returns-4 : tie.Need-returns-4
 returns-4 c =
     let k = c .before in
     let s = k .before .before .before in
-    let t = told-refused (dueRefusal (ws (s .before)) (at (s .before) + 1) 2) _ _ (sym (ap toldUsize (k .e2 .given .1)) ∙ k .before .before .due2 .ensures) in
+    let t = told-refused (dueFault (ws (s .before)) (at (s .before) + 1) 2) _ _ (sym (ap toldUsize (k .e2 .given .1)) ∙ k .before .before .due2 .ensures) in
     rw (second-bad (ws (s .before)) (at (s .before)) (first (s .before) .0) (small s) (t .0) (t .1)) (ap (λ (n : ℕ). refused n) (t .2))
 
 returns-5 : tie.Need-returns-5
@@ -157,11 +152,11 @@ returns-5 c =
     let k = c .before in
     let u = k .before .before .before in
     let s = one u in
-    let t = told-refused (dueRefusal (ws (s .before)) (at (s .before) + 2) 2) _ _ (sym (ap toldUsize (k .e3 .given .1)) ∙ k .before .before .due3 .ensures) in
+    let t = told-refused (dueFault (ws (s .before)) (at (s .before) + 2) 2) _ _ (sym (ap toldUsize (k .e3 .given .1)) ∙ k .before .before .due3 .ensures) in
     rw (third-bad (ws (s .before)) (at (s .before)) (first (s .before) .0) (small s) (second u .0) (t .0) (t .1)) (ap (λ (n : ℕ). refused n) (t .2))
 
 returns-6 : tie.Need-returns-6
-returns-6 c = rw (read (c .before), ne-eqb _ _ (c .if2 .left)) refl
+returns-6 c = rw (read (c .before .before), ne-eqb _ _ (λ e. c .if2 .left (sym (field (c .before)) ∙ e))) refl
 
 pub check-cell-spec : {M : Type 1} → statement M
 check-cell-spec =
@@ -179,10 +174,7 @@ check-cell-spec =
     due-requires-3
     enum-known-e-3
     enum-known-last
-    mul-if2
-    mul-if2-2
-    add-if2
-    add-if2-2
+    joined-bits-requires
     returns-2
     returns-3
     returns-4

@@ -1,4 +1,4 @@
--- `deposit::count_at` meets its contract. Assumes nothing.
+-- `deposit::count_at` meets its contract: once the word is there, its payload decides. Assumes nothing.
 use mathlib.Core.Path.{_≡_, refl, sym, ap, _∙_}
 use mathlib.Core.List.{List}
 use mathlib.Core.Option.{none}
@@ -9,7 +9,7 @@ use Rattle.refusal.specs.Told.{toldUsize}
 use Rattle.refusal.proofs.Told.{told-values, refused-first}
 use Rattle.table.proofs.Checks.{count-zero, count-over, count-fits}
 use Rattle.words.specs.Words.{wordsOf, payloadAt}
-use Rattle.words.specs.Faults.{dueRefusal}
+use Rattle.words.specs.Faults.{dueFault}
 use Rattle.deposit.specs.Deposit.{countFault}
 use Rattle.deposit.proofs.Faults.{count-read}
 use Rattle.deposit.proofs.count_at.Statement.{statement}
@@ -38,8 +38,8 @@ module _ (c : tie.After-known-told2) where
   abbrev count : ℕ
   count = c .before .count .given .0 .0
 
-  read : (dueRefusal ws (1 + p) 1 ≡ none) × (count ≡ payloadAt ws (1 + p))
-  read = told-values (dueRefusal ws (1 + p) 1) (payloadAt ws (1 + p)) count (sym (ap toldUsize (c .before .count .given .1)) ∙ c .before .before .before .due .ensures)
+  read : (dueFault ws (1 + p) 1 ≡ none) × (count ≡ payloadAt ws (1 + p))
+  read = told-values (dueFault ws (1 + p) 1) (payloadAt ws (1 + p)) count (sym (ap toldUsize (c .before .count .given .1)) ∙ c .before .before .before .due .ensures)
 
 returns : tie.Need-returns
 returns c = let k = c .before in rw (count-read (ws k) (p k) (read k .0), count-zero (payloadAt (ws k) (1 + p k)) (sym (read k .1) ∙ c .if1 .taken)) refl
@@ -54,7 +54,7 @@ unfolding countFault
 returns-3 c =
     let k = c .before in
     let s = k .before .before .before .before in
-    refused-first (dueRefusal (wordsOf (s .args .bytes .now)) (1 + s .args .player) 1) _ _ _ (sym (ap toldUsize (k .e .given .1)) ∙ k .before .before .due .ensures) _
+    refused-first (dueFault (wordsOf (s .args .bytes .now)) (1 + s .args .player) 1) _ _ _ (sym (ap toldUsize (k .e .given .1)) ∙ k .before .before .due .ensures) _
 
 returns-4 : tie.Need-returns-4
 returns-4 c =

@@ -1,4 +1,4 @@
--- `deposit::opening` meets its contract. Assumes nothing.
+-- `deposit::opening` meets its contract: the length, the word, the edition, then P. Assumes nothing.
 use mathlib.Core.Path.{_≡_, refl, sym, ap, _∙_}
 use mathlib.Core.List.{List}
 use mathlib.Core.Option.{none}
@@ -8,8 +8,8 @@ use borrow.Author.Needs.{needs}
 use Rattle.refusal.specs.Told.{toldUnit, toldUsize}
 use Rattle.refusal.proofs.Told.{told-values, refused-first}
 use Rattle.words.specs.Words.{wordsOf, payloadAt}
-use Rattle.words.specs.Faults.{lengthRefusal, dueRefusal}
-use Rattle.deposit.specs.Deposit.{playersIn, openingRefusal}
+use Rattle.words.specs.Faults.{lengthFault, dueFault}
+use Rattle.deposit.specs.Deposit.{playersIn, openingFault}
 use Rattle.deposit.proofs.Faults.{players-is, wrong-edition, opens-none, opens-many, opens}
 use Rattle.deposit.proofs.opening.Statement.{statement}
 use Rattle.deposit.proofs.opening.Tie as tie
@@ -33,7 +33,7 @@ enum-known-payload : tie.Need-enum-known-payload
 enum-known-payload c = search needs
 
 -- the bytes are whole words
-even : (c : tie.After-enum-told) → lengthRefusal (c .before .before .before .before .args .bytes .now) ≡ none
+even : (c : tie.After-enum-told) → lengthFault (c .before .before .before .before .args .bytes .now) ≡ none
 even c = told-values _ _ _ (sym (ap toldUnit (c .enum-told .given .1)) ∙ c .before .before .whole .ensures) .0
 
 -- and the opening word is there
@@ -44,11 +44,11 @@ module _ (c : tie.After-known-told3) where
   abbrev payload : ℕ
   payload = c .before .payload .given .0 .0
 
-  whole : lengthRefusal (c .before .before .before .before .before .before .before .before .args .bytes .now) ≡ none
+  whole : lengthFault (c .before .before .before .before .before .before .before .before .args .bytes .now) ≡ none
   whole = even (c .before .before .before .before)
 
-  read : (dueRefusal ws 0 0 ≡ none) × (payload ≡ payloadAt ws 0)
-  read = told-values (dueRefusal ws 0 0) (payloadAt ws 0) payload (sym (ap toldUsize (c .before .payload .given .1)) ∙ c .before .before .before .due .ensures)
+  read : (dueFault ws 0 0 ≡ none) × (payload ≡ payloadAt ws 0)
+  read = told-values (dueFault ws 0 0) (payloadAt ws 0) payload (sym (ap toldUsize (c .before .payload .given .1)) ∙ c .before .before .before .due .ensures)
 
   edition : payload / 256 ≡ 1 → payloadAt ws 0 / 256 ≡ 1
   edition h = ap (λ (w : ℕ). w / 256) (sym (read .1)) ∙ h
@@ -74,15 +74,15 @@ returns-3 c =
 returns-4 : tie.Need-returns-4
 returns-4 c =
     let k = c .before in
-    refused-first (lengthRefusal (k .before .before .before .before .args .bytes .now)) _ _ _ (sym (ap toldUnit (k .e .given .1)) ∙ k .before .before .whole .ensures) _
+    refused-first (lengthFault (k .before .before .before .before .args .bytes .now)) _ _ _ (sym (ap toldUnit (k .e .given .1)) ∙ k .before .before .whole .ensures) _
 
 returns-5 : tie.Need-returns-5
-unfolding openingRefusal
+unfolding openingFault
 returns-5 c =
     let k = c .before in
     let s = k .before .before .before in
     rw (even s)
-    (refused-first (dueRefusal (wordsOf (s .before .before .before .before .args .bytes .now)) 0 0) _ _ _
+    (refused-first (dueFault (wordsOf (s .before .before .before .before .args .bytes .now)) 0 0) _ _ _
     (sym (ap toldUsize (k .e2 .given .1)) ∙ k .before .before .due .ensures)
     _)
 

@@ -1,11 +1,10 @@
 -- `deposit::pair` meets its contract. Assumes nothing.
-use mathlib.Core.Path.{_≡_, sym, _∙_, subst}
-use Prim.Native.Nat.{ℕ, _+_, _*_, _/_, _%_, _^_}
+use mathlib.Core.Path.{sym, _∙_, subst}
 use native.Mathlib.Omega.{arith}
 use borrow.Author.Needs.{needs}
 use lib.Dec.{T}
 use Rattle.words.specs.Words.{word}
-use Rattle.deposit.proofs.Bits.{finite-has-bits}
+use Rattle.deposit.proofs.Bits.{finite-no-nan}
 use Rattle.deposit.proofs.pair.Statement.{statement}
 use Rattle.deposit.proofs.pair.Tie as tie
 
@@ -13,7 +12,7 @@ is-finite-requires : tie.Need-is-finite-requires
 is-finite-requires c κs = search needs
 
 float-to-bits-bits : tie.Need-float-to-bits-bits
-float-to-bits-bits c = finite-has-bits (c .before .before .args .x) (c .before .before .pre)
+float-to-bits-bits c = finite-no-nan (c .before .before .args .x) (c .before .before .pre)
 
 mul-result : tie.Need-mul-result
 mul-result c = omega arith

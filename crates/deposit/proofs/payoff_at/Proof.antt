@@ -1,9 +1,8 @@
--- `deposit::payoff_at` meets its contract. Assumes nothing.
-use mathlib.Core.Path.{_≡_, sym, subst}
+-- `deposit::payoff_at` meets its contract: the bits of a cell without a fault are no NaN's. Assumes nothing.
+use mathlib.Core.Path.{_≡_, sym, subst, ap, _∙_}
 use mathlib.Core.List.{List}
 use Prim.Native.Nat.{ℕ, _+_, _*_, _^_, _<_, _≤_}
 use native.Mathlib.Omega.{arith}
-use borrow.Author.Needs.{needs}
 use lib.Dec.{T}
 use lib.ListN.{getD}
 use lib.Ieee.{Float, binary64, ofBits}
@@ -61,23 +60,19 @@ module _ (c : tie.After-part3) where
   is : payoffIn ws at ≡ ofBits binary64 (top * 2 ^ 60 + next * 2 ^ 30 + last)
   is = payoff-bits ws at top next last (c .before .before .part .ensures) (c .before .part2 .ensures) (c .part3 .ensures)
 
-mul-result : tie.Need-mul-result
-mul-result c = omega (arith, bounds c)
+joined-bits-requires : tie.Need-joined-bits-requires
+joined-bits-requires c κs = bounds c
 
-mul-result-2 : tie.Need-mul-result-2
-mul-result-2 c = omega (arith, bounds c)
-
-add-result : tie.Need-add-result
-add-result c = omega (arith, bounds c)
-
-add-result-2 : tie.Need-add-result-2
-add-result-2 c = omega (arith, bounds c)
+-- the bits are those of the payoff
+made : (c : tie.After-joined-bits) → payoffIn (ws (c .before)) (at (c .before)) ≡ ofBits binary64 (c .joined-bits .result)
+made c = is (c .before) ∙ ap (ofBits binary64) (sym (c .joined-bits .ensures))
 
 float-from-bits-result : tie.Need-float-from-bits-result
-float-from-bits-result c = bits-no-nan _ (subst (λ (x : Float). T (finite x)) (is c) (cell (c .before .before .before .before) .held))
+float-from-bits-result c =
+    bits-no-nan (c .joined-bits .result) (subst (λ (x : Float). T (finite x)) (made c) (cell (c .before .before .before .before .before) .held))
 
 returns : tie.Need-returns
-returns c = sym (is c)
+returns c = sym (made c)
 
 pub payoff-at-spec : {M : Type 1} → statement M
 payoff-at-spec =
@@ -88,9 +83,6 @@ payoff-at-spec =
     part-requires-2
     add-part-2
     part-requires-3
-    mul-result
-    mul-result-2
-    add-result
-    add-result-2
+    joined-bits-requires
     float-from-bits-result
     returns)

@@ -1,10 +1,10 @@
 -- `deposit::put_counts` meets its contract. The invariant: the counts before player p's are written, and then comes what stood in the output.
 -- Assumes nothing.
 use mathlib.Core.Path.{_≡_, refl, sym, ap, _∙_}
-use Prim.Native.Nat.{ℕ, _+_, _-_, _<_, _≤_}
+use Prim.Native.Nat.{_-_, _≤_}
 use native.Mathlib.Omega.{arith}
 use borrow.Author.Needs.{needs}
-use lib.ListN.{length, getD, take}
+use lib.ListN.{length, take}
 use lib.Seq.{take-all, length-take-le}
 use Rattle.table.specs.Outputs.{over}
 use Rattle.table.proofs.Outputs.{over-length, over-next}

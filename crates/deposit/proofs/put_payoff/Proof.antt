@@ -1,26 +1,26 @@
 -- `deposit::put_payoff` meets its contract. Assumes nothing.
 use mathlib.Core.Path.{_≡_, refl, sym, ap, _∙_, subst}
 use mathlib.Core.List.{List, [], _∷_}
-use Prim.Native.Nat.{ℕ, _+_, _*_, _/_, _%_, _^_, _<_, _≤_}
+use Prim.Native.Nat.{ℕ, _+_, _*_, _/_, _%_, _^_, _<_}
 use native.Mathlib.Omega.{arith}
-use borrow.Author.Needs.{needs}
 use lib.Dec.{T}
 use lib.ListN.{length}
-use lib.Ieee.{binary64, toBits, fits}
+use lib.Ieee.Bits.{toBits-lt}
+use lib.Ieee.{binary64, toBits}
 use Rattle.words.specs.Words.{word}
 use Rattle.deposit.specs.Deposit.{payoffWords}
 use Rattle.deposit.specs.Put.{wordsPut}
-use Rattle.deposit.proofs.Bits.{finite-has-bits, bits-below}
+use Rattle.deposit.proofs.Bits.{finite-no-nan}
 use Rattle.deposit.proofs.Puts.{put-length, put-more}
 use Rattle.deposit.proofs.put_payoff.Statement.{statement}
 use Rattle.deposit.proofs.put_payoff.Tie as tie
 
 float-to-bits-bits : tie.Need-float-to-bits-bits
-float-to-bits-bits c = finite-has-bits (c .before .args .x) (c .before .pre .0)
+float-to-bits-bits c = finite-no-nan (c .before .args .x) (c .before .pre .0)
 
 -- there are 64 of them
 wide : (s : tie.Start) → toBits binary64 (s .args .x) < 2 ^ 64
-wide s = bits-below (s .args .x) (subst T (sym (s .good .0 .1)) tt)
+wide s = toBits-lt binary64 (s .args .x) (subst T (sym (s .good .0 .1)) tt)
 
 cast-put-word : tie.Need-cast-put-word
 cast-put-word c = omega (arith, wide (c .before .before))

@@ -1,9 +1,8 @@
 -- `deposit::put_payoffs` meets its contract. The invariant: the payoffs of the cells before the i-th are written, and then comes what stood in the
 -- output. Assumes nothing.
 use mathlib.Core.Path.{_≡_, refl, sym, ap, _∙_}
-use Prim.Native.Nat.{ℕ, _+_, _*_, _-_, _<_, _≤_}
+use Prim.Native.Nat.{ℕ, _+_, _*_, _-_, _≤_}
 use native.Mathlib.Omega.{arith}
-use borrow.Author.Needs.{needs}
 use lib.ListN.{length, getD, take}
 use lib.Seq.{take-all, length-take-le}
 use lib.Ieee.{nan}

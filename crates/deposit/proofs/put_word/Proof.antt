@@ -1,8 +1,8 @@
--- `deposit::put_word` meets its contract. Assumes nothing.
-use mathlib.Core.Path.{_≡_, refl, _∙_}
-use Prim.Native.Nat.{_+_, _*_, _<_}
+-- `deposit::put_word` meets its contract: its four stores are the word's bytes. Assumes nothing.
+use mathlib.Core.Path.{refl, _∙_}
+use Prim.Native.Nat.{_*_}
 use native.Mathlib.Omega.{arith}
-use lib.ListN.{length, length-set}
+use lib.ListN.{length-set}
 use Rattle.words.specs.Words.{word, wordBytes}
 use Rattle.deposit.proofs.Puts.{four-stores, word-stores}
 use Rattle.deposit.proofs.put_word.Statement.{statement}
@@ -42,7 +42,7 @@ slice-write-bytes-3 : tie.Need-slice-write-bytes-3
 slice-write-bytes-3 c = rw (length-set, length-set) (omega (arith, c .pre))
 
 cast-bytes-4 : tie.Need-cast-bytes-4
-cast-bytes-4 c = omega arith
+cast-bytes-4 c = omega (arith, c .pre)
 
 add-bytes-3 : tie.Need-add-bytes-3
 add-bytes-3 c = omega (arith, c .pre, c .good)

@@ -1,8 +1,8 @@
 -- `deposit::read` meets its contract, stage by stage. Assumes nothing.
-use mathlib.Core.Path.{_≡_, refl, sym, ap, _∙_, subst}
+use mathlib.Core.Path.{_≡_, refl, sym, ap, _∙_}
 use mathlib.Core.List.{List}
-use mathlib.Core.Option.{none, some}
-use Prim.Native.Nat.{ℕ, _+_, _*_, _<_, _≤_}
+use mathlib.Core.Option.{none}
+use Prim.Native.Nat.{ℕ, _<_, _≤_}
 use native.Mathlib.Omega.{arith}
 use borrow.Author.Needs.{needs}
 use borrow.Author.Tests.{ltb-false}
@@ -10,8 +10,7 @@ use lib.Dec.{ltb}
 use lib.ListN.{length}
 use lib.Ieee.{Float}
 use Rattle.game.specs.Finite.{below}
-use Rattle.refusal.specs.Refusal.{Refusal, when, each, _then_}
-use Rattle.refusal.specs.declared.NormalFormError.{NormalFormError}
+use Rattle.refusal.specs.Refusal.{when, each, _then_}
 use Rattle.refusal.specs.declared.NormalFormError.the-variants.{TooManyCells, OutputTooShort}
 use Rattle.refusal.specs.Told.{toldUnit, toldUsize, values, unless}
 use Rattle.refusal.proofs.Refusal.{when-none, then-none, none-each}
@@ -19,8 +18,8 @@ use Rattle.refusal.proofs.Told.{told-values, told-refused}
 use Rattle.table.specs.Limits.{maxPlayers, maxCells}
 use Rattle.table.specs.Table.{cells}
 use Rattle.words.specs.Words.{wordsOf}
-use Rattle.words.specs.Faults.{lengthRefusal, closingRefusal}
-use Rattle.deposit.specs.Deposit.{playersIn, countsIn, cellPlace, openingRefusal, countFault, cellFault, readRefusal}
+use Rattle.words.specs.Faults.{lengthFault, closingFault}
+use Rattle.deposit.specs.Deposit.{playersIn, countsIn, cellPlace, openingFault, countFault, cellFault, readRefusal}
 use Rattle.deposit.proofs.Faults.{opening-law}
 use Rattle.deposit.proofs.Reader.{opened, counted, restFrom, rest, bad-opening, bad-counts, short-counts, short-payoffs, room-is-rest, read-refused, read-accepted}
 use Rattle.deposit.proofs.read.Statement.{statement}
@@ -64,7 +63,7 @@ module _ (c : tie.After-known-told2) where
 
   few : (0 < players) × (players ≤ maxPlayers)
   few =
-      let t = opening-law (ws start) .0 (then-none (lengthRefusal (bytes start)) (openingRefusal (ws start)) .0 (opens .0) .1) in
+      let t = opening-law (ws start) .0 (then-none (lengthFault (bytes start)) (openingFault (ws start)) .0 (opens .0) .1) in
       (rw (opens .1) (t .2), rw (opens .1) (t .3))
 
 cell-count-requires : tie.Need-cell-count-requires
@@ -167,7 +166,7 @@ module _ (c : tie.After-enum-told) where
   cell : (i : ℕ) → i < number (all roomy) → cellFault (ws file) (cellPlace (ws file) i) ≡ none
   cell i h =
       none-each (cells (countsIn (ws file))) (λ i. cellFault (ws file) (cellPlace (ws file) i))
-      (then-none (each (λ i. cellFault (ws file) (cellPlace (ws file) i)) (below (cells (countsIn (ws file))))) (closingRefusal (ws file) (cellPlace (ws file) (cells (countsIn (ws file))))) .0 sound .0)
+      (then-none (each (λ i. cellFault (ws file) (cellPlace (ws file) i)) (below (cells (countsIn (ws file))))) (closingFault (ws file) (cellPlace (ws file) (cells (countsIn (ws file))))) .0 sound .0)
       i
       (omega (arith, h, count (all roomy) .1))
 

@@ -1,16 +1,15 @@
--- `deposit::write` meets its contract. Assumes nothing.
-use mathlib.Core.Path.{_≡_, refl, sym, ap, _∙_}
+-- `deposit::write` meets its contract: the opening word, the counts, the payoffs and the closing word, put one after the other, are the file
+-- (`file-put`). Assumes nothing.
+use mathlib.Core.Path.{_≡_, sym, ap, _∙_}
 use mathlib.Core.List.{List, [], _∷_, map, flatMap}
-use mathlib.Core.Option.{none}
-use Prim.Native.Nat.{ℕ, _+_, _*_, _<_, _≤_}
+use Prim.Native.Nat.{ℕ, _+_, _*_, _≤_}
 use native.Mathlib.Omega.{arith}
 use borrow.Author.Needs.{needs}
 use lib.ListN.{length}
 use lib.Ieee.{Float}
-use Rattle.game.specs.Finite.{product}
 use Rattle.refusal.specs.Told.{toldUsize, values}
 use Rattle.refusal.proofs.Told.{told-refused}
-use Rattle.table.specs.Limits.{maxCells}
+use Rattle.table.specs.Limits.{maxPlayers, maxCells}
 use Rattle.table.specs.Checks.{tableRefusal}
 use Rattle.table.proofs.Table.{TableTold, table-told}
 use Rattle.words.specs.Words.{word}
@@ -52,7 +51,7 @@ module _ (c : tie.After-enum-told) where
       table-told (counts start) (payoffs start) (c .enum-told .given .0 .0)
       (sym (ap toldUsize (c .enum-told .given .1)) ∙ c .before .before .table-profile-count .ensures)
 
-  few : (length (counts start) ≤ 8) × (length (payoffs start) ≤ maxCells)
+  few : (length (counts start) ≤ maxPlayers) × (length (payoffs start) ≤ maxCells)
   few = (told .table .shape .few, omega (arith, told .table .full, told .table .shape .room))
 
   long : length (deposit (counts start) (payoffs start)) ≡ 4 * (wordsBefore (counts start) (payoffs start) + 1)

@@ -1,12 +1,11 @@
 -- `deposit::write_counts` meets its contract. The invariant: the words of the counts before player p's are put. Assumes nothing.
-use mathlib.Core.Path.{_≡_, refl, sym, ap, _∙_}
+use mathlib.Core.Path.{_≡_, sym, ap, _∙_}
 use mathlib.Core.List.{[], _∷_, map}
-use Prim.Native.Nat.{ℕ, _+_, _*_, _-_, _<_, _≤_}
+use Prim.Native.Nat.{_+_, _*_, _-_, _<_, _≤_}
 use native.Mathlib.Omega.{arith}
-use borrow.Author.Needs.{needs}
 use lib.ListN.{length, getD, take}
 use lib.Seq.{take-all}
-use Rattle.table.specs.Limits.{maxStrategies}
+use Rattle.table.specs.Limits.{maxPlayers, maxStrategies}
 use Rattle.words.specs.Words.{word}
 use Rattle.deposit.specs.Put.{wordsPut}
 use Rattle.deposit.proofs.Puts.{put-length, put-none, counts-more}
@@ -30,7 +29,7 @@ loop-holds c = (omega arith, sym (put-none _ 1))
 turn : (c : tie.In-loop Inv-loop μ-loop) →
     let s = c .before .before .before .before in
     let l = c .before .loop in
-    (l .p < length (s .args .counts .now)) × (length (s .args .counts .now) ≤ 8) × (getD (s .args .counts .now) (l .p) 0 ≤ maxStrategies) × (4 * (1 + l .p) + 4 ≤ length (l .bytes))
+    (l .p < length (s .args .counts .now)) × (length (s .args .counts .now) ≤ maxPlayers) × (getD (s .args .counts .now) (l .p) 0 ≤ maxStrategies) × (4 * (1 + l .p) + 4 ≤ length (l .bytes))
 turn c =
     let s = c .before .before .before .before in
     let h = c .loop-test .taken in

@@ -2,19 +2,17 @@
 use mathlib.Core.Path.{_≡_, sym, ap, ap₂, _∙_}
 use mathlib.Core.List.{List}
 use mathlib.Core.Option.{none}
-use Prim.Native.Nat.{ℕ, _-_, _*_, _<_, _≤_}
+use Prim.Native.Nat.{ℕ, _-_, _*_, _≤_}
 use native.Mathlib.Omega.{arith}
 use borrow.Author.Needs.{needs}
 use lib.ListN.{length, take}
 use lib.Ieee.{Float}
 use Rattle.game.specs.Finite.{product}
-use Rattle.refusal.specs.Refusal.{Refusal, numberOf}
-use Rattle.refusal.specs.Told.{toldUsize, values, refused, unless}
+use Rattle.refusal.specs.Refusal.{Refusal}
+use Rattle.refusal.specs.Told.{toldUsize, values, unless}
 use Rattle.refusal.proofs.Told.{apart, told-values}
 use Rattle.table.specs.Limits.{maxCells}
-use Rattle.table.specs.Table.{cells}
 use Rattle.table.specs.Meaning.{Table}
-use Rattle.table.specs.Checks.{countsRefusal}
 use Rattle.table.specs.Answers.{countsAnswer}
 use Rattle.table.specs.Outputs.{over}
 use Rattle.table.proofs.Checks.{counts-law}

@@ -1,4 +1,4 @@
--- `words::closing` meets its contract. Assumes nothing.
+-- `words::closing` meets its contract: the word that is due, its number, then what follows it. Assumes nothing.
 use mathlib.Core.Path.{_≡_, refl, sym, ap, _∙_}
 use mathlib.Core.List.{List}
 use mathlib.Core.Option.{none}
@@ -9,7 +9,7 @@ use lib.ListN.{getD}
 use Rattle.refusal.specs.Told.{toldUsize}
 use Rattle.refusal.proofs.Told.{told-values, refused-first}
 use Rattle.words.specs.Words.{wordsOf, payloadAt}
-use Rattle.words.specs.Faults.{dueRefusal, closingRefusal}
+use Rattle.words.specs.Faults.{dueFault, closingFault}
 use Rattle.words.proofs.Words.{payload-lt, words-length}
 use Rattle.words.proofs.Faults.{wrong-number, followed, closes}
 use Rattle.words.proofs.closing.Statement.{statement}
@@ -35,8 +35,8 @@ module _ (c : tie.After-known-told2) where
   abbrev number : ℕ
   number = c .before .number .given .0 .0
 
-  read : (dueRefusal ws place 3 ≡ none) × (number ≡ payloadAt ws place)
-  read = told-values (dueRefusal ws place 3) (payloadAt ws place) number (sym (ap toldUsize (c .before .number .given .1)) ∙ c .before .before .before .due .ensures)
+  read : (dueFault ws place 3 ≡ none) × (number ≡ payloadAt ws place)
+  read = told-values (dueFault ws place 3) (payloadAt ws place) number (sym (ap toldUsize (c .before .number .given .1)) ∙ c .before .before .before .due .ensures)
 
   small : number < 2 ^ 30
   small = rw (read .1) (payload-lt (getD ws place 0))
@@ -54,10 +54,10 @@ returns-2 c =
     rw (followed (ws k) (place k) (read k .0) (sym (read k .1) ∙ same) (rw words-length (omega (arith, same, c .if2 .taken)))) refl
 
 returns-3 : tie.Need-returns-3
-unfolding closingRefusal
+unfolding closingFault
 returns-3 c =
     let k = c .before in
-    refused-first (dueRefusal (wordsOf (k .before .before .before .before .args .bytes .now)) (k .before .before .before .before .args .place) 3) _ _ _
+    refused-first (dueFault (wordsOf (k .before .before .before .before .args .bytes .now)) (k .before .before .before .before .args .place) 3) _ _ _
     (sym (ap toldUsize (k .e .given .1)) ∙ k .before .before .due .ensures)
     _
 

@@ -1,11 +1,11 @@
 -- `words::part` meets its contract. Assumes nothing.
 use mathlib.Core.Path.{_≡_, sym, _∙_}
-use Prim.Native.Nat.{ℕ, _+_, _*_, _/_, _^_, _<_}
+use Prim.Native.Nat.{_+_, _*_, _/_, _^_, _<_}
 use native.Mathlib.Omega.{arith}
 use borrow.Author.Needs.{needs}
 use lib.ListN.{length}
 use Rattle.words.specs.Words.{word, payloadAt, wordsOf}
-use Rattle.words.proofs.Words.{words-length, words-at, payload-lt}
+use Rattle.words.proofs.Words.{words-length, words-at}
 use Rattle.words.proofs.Faults.{due-law, due-word}
 use Rattle.words.proofs.part.Statement.{statement}
 use Rattle.words.proofs.part.Tie as tie

@@ -1,6 +1,4 @@
--- `words::payload` meets its contract. Assumes nothing.
-use mathlib.Core.Path.{_≡_, _∙_, ap}
-use Prim.Native.Nat.{ℕ, _%_}
+-- `words::payload` meets its contract: the remainder by 2^30 is the payload, and past the last word the list of words has 0. Assumes nothing.
 use native.Mathlib.Omega.{arith}
 use borrow.Author.Needs.{needs}
 use Rattle.words.proofs.Words.{payload-here, payload-none}

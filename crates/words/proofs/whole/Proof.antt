@@ -1,4 +1,4 @@
--- `words::whole` meets its contract. Assumes nothing.
+-- `words::whole` meets its contract: its test is the definition's. Assumes nothing.
 use mathlib.Core.Path.{refl}
 use Rattle.words.proofs.Faults.{length-law, uneven}
 use Rattle.words.proofs.whole.Statement.{statement}
