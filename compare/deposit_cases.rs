@@ -328,10 +328,7 @@ const TABLE_FAULTS: [u32; 8] = [
 
 /// A table with the faults of a set and no others, as far as they go together.
 fn faulty_table(deposits: &mut Deposits, random: &mut Random, faults: u32) {
-    let has = |refusal: u32| {
-        let place = TABLE_FAULTS.iter().position(|fault| *fault == refusal);
-        place.is_some_and(|place| faults >> place & 1 == 1)
-    };
+    let has = |refusal: u32| solvers::has_fault(&TABLE_FAULTS, faults, refusal);
     let counts = solvers::faulty_counts(random, has);
     let mut payoffs = solvers::faulty_payoffs(random, has, &counts);
     if random.below(8) != 0 {

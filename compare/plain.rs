@@ -40,6 +40,14 @@ fn fault(bytes: &[u8]) -> u32 {
     7
 }
 
+fn check_count(count: usize) -> Result<(), u32> {
+    match count {
+        0 => Err(3),
+        1..=STRATEGIES => Ok(()),
+        _ => Err(4),
+    }
+}
+
 #[inline(never)]
 pub fn read(bytes: &[u8], counts: &mut [usize], payoffs: &mut [f64]) -> Result<usize, u32> {
     if bytes.len() % 4 != 0 {
@@ -60,12 +68,7 @@ pub fn read(bytes: &[u8], counts: &mut [usize], payoffs: &mut [f64]) -> Result<u
     let mut held = [0; PLAYERS];
     for (player, count) in held[..players].iter_mut().enumerate() {
         *count = due(bytes, 1 + player, COUNT)? as usize;
-        if *count == 0 {
-            return Err(3);
-        }
-        if *count > STRATEGIES {
-            return Err(4);
-        }
+        check_count(*count)?;
         cells *= *count;
     }
     if cells > CELLS {
@@ -112,12 +115,7 @@ pub fn write(counts: &[usize], payoffs: &[f64], bytes: &mut [u8]) -> Result<usiz
     }
     let mut cells = counts.len();
     for count in counts {
-        if *count == 0 {
-            return Err(3);
-        }
-        if *count > STRATEGIES {
-            return Err(4);
-        }
+        check_count(*count)?;
         cells *= *count;
     }
     if cells > CELLS {

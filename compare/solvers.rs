@@ -291,6 +291,12 @@ fn faulty(solvers: &mut Solvers, random: &mut Random, faults: u32) {
     solvers.dominated(&judged, player, &[room]);
 }
 
+/// Whether a set, a bit for each fault of a list, has the fault.
+pub fn has_fault(faults: &[u32], set: u32, refusal: u32) -> bool {
+    let place = faults.iter().position(|fault| *fault == refusal);
+    place.is_some_and(|place| set >> place & 1 == 1)
+}
+
 pub fn faulty_counts(random: &mut Random, has: impl Fn(u32) -> bool) -> Vec<usize> {
     if has(document::NO_PLAYERS) {
         return Vec::new();

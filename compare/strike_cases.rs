@@ -437,10 +437,7 @@ const FAULTS: [u32; 12] = [
 /// An input with the faults of a set and no others, as far as they go together: so each refusal comes with every later
 /// fault present too.
 fn faulty(strikes: &mut Strikes, random: &mut Random, faults: u32) {
-    let has = |refusal: u32| {
-        let place = FAULTS.iter().position(|fault| *fault == refusal);
-        place.is_some_and(|place| faults >> place & 1 == 1)
-    };
+    let has = |refusal: u32| solvers::has_fault(&FAULTS, faults, refusal);
     let counts = solvers::faulty_counts(random, has);
     let payoffs = faulty_payoffs(random, has, &counts);
     let (survivors, [player, strategy]) = faulty_strike(random, has, &counts);
