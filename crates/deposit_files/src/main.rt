@@ -47,10 +47,11 @@ const FLOAT_FILLING: f64 = -1234.5;
 
 const BYTE_FILLING: u8 = 0xa5;
 
-// The most payoffs that are printed, and the most words of a file that are damaged. Only the largest file has more.
+// The most payoffs that are printed, and the most words of a file whose payload becomes ones, since each cell then has runs of its own. Only
+// the largest file has more.
 const PRINTED: usize = 72;
 
-const DAMAGED: usize = 224;
+const ONES: usize = 224;
 
 // An answer as one number: a refusal's number, or this and the accepted call's number. Where outputs are not as they have to be, WRONG more.
 const ACCEPTED: usize = 100;
@@ -518,11 +519,11 @@ fn of_kinds(name: &[u8], file: &mut [u8], words: usize) {
 fn of_payloads(name: &[u8], file: &mut [u8], words: usize) {
     runs(name, b", payload + 1 at", file, 4, words);
     runs(name, b", payload 0 at", file, 5, words);
-    runs(name, b", payload of ones at", file, 6, words);
+    runs(name, b", payload of ones at", file, 6, least(words, ONES));
 }
 
 fn of_damage(name: &[u8], file: &mut [u8]) {
-    let words = least(file.len() / 4, DAMAGED);
+    let words = file.len() / 4;
     runs(name, b", cut at", file, CUT, plus(file.len(), 1));
     of_kinds(name, file, words);
     of_payloads(name, file, words);
