@@ -65,14 +65,11 @@ word-stores bytes place k n = ap (λ (r : List ℕ). sets bytes (4 * place) r) (
 pub eight-stores : (bytes : List ℕ) (at a b c d e f g h : ℕ)
     → set (set (set (set (set (set (set (set bytes at a) (at + 1) b) (at + 2) c) (at + 3) d) (at + 4) e) (at + 5) f) (at + 6) g) (at + 7) h ≡ sets bytes at (a ∷ b ∷ c ∷ d ∷ e ∷ f ∷ g ∷ h ∷ [])
 eight-stores bytes at a b c d e f g h =
-    let one : at + 1 ≡ suc at = omega arith in
-    let two : at + 2 ≡ suc (suc at) = omega arith in
-    let three : at + 3 ≡ suc (suc (suc at)) = omega arith in
-    let four : at + 4 ≡ suc (suc (suc (suc at))) = omega arith in
-    let five : at + 5 ≡ suc (suc (suc (suc (suc at)))) = omega arith in
-    let six : at + 6 ≡ suc (suc (suc (suc (suc (suc at))))) = omega arith in
-    let seven : at + 7 ≡ suc (suc (suc (suc (suc (suc (suc at)))))) = omega arith in
-    rw (one, two, three, four, five, six, seven) refl
+    let five : at + 5 ≡ at + 4 + 1 = omega arith in
+    let six : at + 6 ≡ at + 4 + 2 = omega arith in
+    let seven : at + 7 ≡ at + 4 + 3 = omega arith in
+    rw (four-stores bytes at a b c d, five, six, seven)
+    (four-stores (sets bytes at (a ∷ b ∷ c ∷ d ∷ [])) (at + 4) e f g h ∙ sym (sets-append (a ∷ b ∷ c ∷ d ∷ []) (e ∷ f ∷ g ∷ h ∷ []) bytes at))
 
 pub pair-bytes : (n : ℕ) → bytesOf (n / 2 ^ 32 ∷ n % 2 ^ 32 ∷ []) ≡ n / 2 ^ 56 ∷ n / 2 ^ 48 % 256 ∷ n / 2 ^ 40 % 256 ∷ n / 2 ^ 32 % 256 ∷ n / 2 ^ 24 % 256 ∷ n / 2 ^ 16 % 256 ∷ n / 2 ^ 8 % 256 ∷ n % 256 ∷ []
 unfolding bytesOf flatMap wordBytes

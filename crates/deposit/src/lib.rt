@@ -25,9 +25,9 @@ ghost use Rattle.table.specs.Table.{cells};
 ghost use Rattle.table.specs.Meaning.{Shape, Finites};
 ghost use Rattle.table.specs.Outputs.{over};
 ghost use Rattle.words.specs.Words.{word, payloadAt, wordsOf};
-ghost use Rattle.deposit.specs.Put.{wordsPut};
 ghost use Rattle.words.specs.Faults.{lengthFault, closingFault};
 ghost use Rattle.deposit.specs.Deposit.{payoffWords, playersIn, countsIn, payoffIn, payoffsIn, cellPlace, openingFault, countFault, cellFault};
+ghost use Rattle.deposit.specs.Put.{wordsPut};
 ghost use Rattle.deposit.specs.Answers.{readAnswer, readCounts, readPayoffs, writeAnswer, writeBytes};
 
 // The kinds of an opening word, a count and a part of a payoff.

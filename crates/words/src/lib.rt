@@ -1,5 +1,5 @@
 // Files of words, each of a kind and with a payload, as the deposit file is one: what a reader of such a file asks of each word.
-// Any bytes and any places may be handed in. A place is the number of words before it.
+// Any bytes and any places may be handed in, but for `part`. A place is the number of words before it.
 use refusal::NormalFormError;
 use refusal::UnitResult;
 use refusal::UsizeResult;

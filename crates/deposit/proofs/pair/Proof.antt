@@ -1,4 +1,4 @@
--- `deposit::pair` meets its contract. Assumes nothing.
+-- `deposit::pair` meets its contract: the sum is the two words, and the test is passed because the caller's payoff is finite. Assumes nothing.
 use mathlib.Core.Path.{sym, _∙_, subst}
 use native.Mathlib.Omega.{arith}
 use borrow.Author.Needs.{needs}

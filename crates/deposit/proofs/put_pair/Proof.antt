@@ -1,4 +1,4 @@
--- `deposit::put_pair` meets its contract. Assumes nothing.
+-- `deposit::put_pair` meets its contract: its eight stores are the bytes of two words. Assumes nothing.
 use mathlib.Core.Path.{refl, sym, ap, _∙_}
 use mathlib.Core.List.{List}
 use Prim.Native.Nat.{ℕ, _*_}

@@ -1,4 +1,4 @@
--- `deposit::put_payoff` meets its contract. Assumes nothing.
+-- `deposit::put_payoff` meets its contract: the first word and the pair of the other two, put one after the other. Assumes nothing.
 use mathlib.Core.Path.{_≡_, refl, sym, ap, _∙_, subst}
 use mathlib.Core.List.{List, [], _∷_}
 use Prim.Native.Nat.{ℕ, _+_, _*_, _/_, _%_, _^_, _<_}

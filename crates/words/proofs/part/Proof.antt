@@ -1,4 +1,4 @@
--- `words::part` meets its contract. Assumes nothing.
+-- `words::part` meets its contract: the word that is due is its kind times 2^30 and its payload. Assumes nothing.
 use mathlib.Core.Path.{_≡_, sym, _∙_}
 use Prim.Native.Nat.{_+_, _*_, _/_, _^_, _<_}
 use native.Mathlib.Omega.{arith}
