@@ -159,8 +159,8 @@ uint32_t sigvanyor_strikes(const size_t *counts, size_t counts_len, const double
                            uint8_t survivors_marks[SIGVANYOR_MAX_MARKS]);
 
 /* A deposit file: a table as big-endian 32-bit words. The top 2 bits of a word are its kind, the other 30 its payload. Kind 0 opens the
- * file: 256 + P, where 256 stands for edition 1. Kind 1, one for each player: its count. Kind 2, three for each payoff in order: its bits' top 4, next 30 and last 30.
- * Kind 3 closes it: the number of words before it. So a file has 4 x (2 + P + 3 x profiles x P) bytes, at most
+ * file: 256 + P, where 256 stands for edition 1. Kind 1, one for each player: its count. Kind 2, three for each payoff in order: its bits'
+ * top 4, next 30 and last 30. Kind 3 closes it: the number of words before it. So a file has 4 x (2 + P + 3 x profiles x P) bytes, at most
  * SIGVANYOR_MAX_FILE. What sigvanyor_write writes, sigvanyor_read gives back, bits and all, and the other way round. */
 
 /* Reads a deposit file: its counts into `counts`, its payoffs into `payoffs`, and P into `players`; or the first fault from left to right,
