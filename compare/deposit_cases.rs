@@ -28,7 +28,7 @@ pub fn run(deposits: &mut Deposits) {
         }
     }
     for _ in 0..120 {
-        for faults in 0..1 << TABLE_FAULTS.len() {
+        for faults in 0..1 << (document::TABLE_FAULTS.len() + FAULTS.len()) {
             faulty_table(deposits, &mut random, faults);
         }
     }
@@ -314,21 +314,12 @@ fn deep(deposits: &mut Deposits, random: &mut Random, words: &[u32], counts: &[u
     deposits.read(&deposit::bytes(&words), needed);
 }
 
-/// The writer's refusals.
-const TABLE_FAULTS: [u32; 8] = [
-    document::NO_PLAYERS,
-    document::MANY_PLAYERS,
-    document::NO_STRATEGIES,
-    document::MANY_STRATEGIES,
-    document::MANY_CELLS,
-    document::PAYOFF_COUNT,
-    document::NON_FINITE,
-    document::SHORT,
-];
+/// The refusal that `write` has beside a table's.
+const FAULTS: [u32; 1] = [document::SHORT];
 
 /// A table with the faults of a set and no others, as far as they go together.
 fn faulty_table(deposits: &mut Deposits, random: &mut Random, faults: u32) {
-    let has = |refusal: u32| solvers::has_fault(&TABLE_FAULTS, faults, refusal);
+    let has = |refusal: u32| solvers::has_fault(&FAULTS, faults, refusal);
     let counts = solvers::faulty_counts(random, has);
     let mut payoffs = solvers::faulty_payoffs(random, has, &counts);
     if random.below(8) != 0 {

@@ -291,9 +291,10 @@ fn faulty(solvers: &mut Solvers, random: &mut Random, faults: u32) {
     solvers.dominated(&judged, player, &[room]);
 }
 
-/// Whether a set, a bit for each fault of a list, has the fault.
-pub fn has_fault(faults: &[u32], set: u32, refusal: u32) -> bool {
-    let place = faults.iter().position(|fault| *fault == refusal);
+/// Whether a set has the fault. It has a bit for each refusal of a table, and then for each of the call's own.
+pub fn has_fault(own: &[u32], set: u32, refusal: u32) -> bool {
+    let mut faults = document::TABLE_FAULTS.iter().chain(own);
+    let place = faults.position(|fault| *fault == refusal);
     place.is_some_and(|place| set >> place & 1 == 1)
 }
 

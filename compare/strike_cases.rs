@@ -21,7 +21,7 @@ pub fn run(strikes: &mut Strikes) {
     let mut random = Random(11);
     known(strikes);
     for _ in 0..40 {
-        for faults in 0..1 << FAULTS.len() {
+        for faults in 0..1 << (document::TABLE_FAULTS.len() + FAULTS.len()) {
             faulty(strikes, &mut random, faults);
         }
     }
@@ -418,21 +418,9 @@ fn place_in(random: &mut Random, from: usize, limit: usize) -> usize {
     }
 }
 
-/// The refusals that the calls have.
-const FAULTS: [u32; 12] = [
-    document::NO_PLAYERS,
-    document::MANY_PLAYERS,
-    document::NO_STRATEGIES,
-    document::MANY_STRATEGIES,
-    document::MANY_CELLS,
-    document::PAYOFF_COUNT,
-    document::NON_FINITE,
-    document::FOREIGN,
-    document::PLAYER,
-    document::GONE,
-    document::NOT_DOMINATED,
-    document::SHORT,
-];
+/// The refusals that the calls have beside a table's.
+const FAULTS: [u32; 5] =
+    [document::FOREIGN, document::PLAYER, document::GONE, document::NOT_DOMINATED, document::SHORT];
 
 /// An input with the faults of a set and no others, as far as they go together: so each refusal comes with every later
 /// fault present too.
