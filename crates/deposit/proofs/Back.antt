@@ -20,7 +20,7 @@ use Rattle.refusal.proofs.Told.{told-values}
 use Rattle.utility.specs.Order.{finite}
 use Rattle.table.specs.Limits.{maxPlayers, maxCells}
 use Rattle.table.specs.Table.{cells}
-use Rattle.table.specs.Meaning.{Table}
+use Rattle.table.specs.Meaning.{Doubles, Table}
 use Rattle.table.specs.Outputs.{shortRefusal}
 use Rattle.table.specs.Checks.{countRefusal, countsRefusal}
 use Rattle.table.proofs.Checks.{count-fits, counts-law}
@@ -29,7 +29,7 @@ use Rattle.words.specs.Faults.{lengthFault, dueFault, closingFault}
 use Rattle.words.proofs.Words.{payload-lt, words-back, bytes-back}
 use Rattle.words.proofs.Faults.{length-law, due-word, word-due, closing-law}
 use Rattle.deposit.specs.Deposit.{payoffWords, deposit, playersIn, countsIn, cellPlace, payoffIn, payoffsIn, openingFault, countFault, cellFault, readRefusal, tableOf}
-use Rattle.deposit.specs.Meaning.{wordsBefore, Layout, Doubles}
+use Rattle.deposit.specs.Meaning.{wordsBefore, Layout}
 use Rattle.deposit.proofs.Bits.{bits-there, bits-parts, top-part, next-part, last-part}
 use Rattle.deposit.proofs.Faults.{players-is, opening-law, count-fault-law, Cell, cell-law, payoff-bits}
 use Rattle.deposit.proofs.Tables.{counts-length, counts-at, payoffs-length, payoffs-at, counts-left}

@@ -1,10 +1,9 @@
--- What a deposit's words are, place by place, and what a slice of payoffs holds. Assumes nothing.
+-- What a deposit's words are, place by place. Assumes nothing.
 use mathlib.Core.Path.{_≡_}
 use mathlib.Core.List.{List}
 use Prim.Native.Nat.{ℕ, _+_, _*_, _<_}
-use lib.Dec.{T}
 use lib.ListN.{length, getD}
-use lib.Ieee.{Float, nan, binary64, fits}
+use lib.Ieee.{Float, nan}
 use Rattle.words.specs.Words.{word}
 use Rattle.deposit.specs.Deposit.{payoffWords}
 
@@ -21,7 +20,3 @@ module _ (counts : List ℕ) (payoffs : List Float) where
     pub cell : (i j : ℕ) → i < length payoffs → j < 3
         → getD ws (1 + length counts + 3 * i + j) 0 ≡ getD (payoffWords (getD payoffs i nan)) j 0
     pub closing : getD ws wordsBefore 0 ≡ word 3 wordsBefore
-
--- each payoff is an f64, as the elements of a slice of payoffs are
-abbrev pub Doubles : List Float → Type 0
-Doubles payoffs = (i : ℕ) → T (fits binary64 (getD payoffs i nan))

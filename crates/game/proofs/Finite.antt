@@ -99,6 +99,11 @@ module _ {A : Type 0} where
   empty-T [] = (λ _ x h. not-in-nil h, λ _. tt)
   empty-T (y ∷ ys) = (λ h. absurd h, λ h. h y (here refl))
 
+  -- what is not empty has an element
+  pub some-mem : (xs : List A) → T (not (empty xs)) ↔ ((x : A) × (x ∈ xs))
+  some-mem [] = (λ h. absurd h, λ h. absurd (not-in-nil (h .1)))
+  some-mem (y ∷ ys) = (λ h. (y, here refl), λ h. tt)
+
   pub filter-mem : (f : A → Bool) (xs : List A) (x : A) → (x ∈ filter f xs) ↔ ((x ∈ xs) × T (f x))
   filter-mem f [] x = (λ h. absurd (not-in-nil h), λ h. absurd (not-in-nil (h .0)))
   filter-mem f (y ∷ ys) x = step (f y) Iff·rfl (filter f ys) (filter-mem f ys x)

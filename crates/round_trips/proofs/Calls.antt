@@ -21,7 +21,7 @@ use Rattle.table.specs.Outputs.{writtenOf, over}
 use Rattle.table.proofs.Checks.{table-law}
 use Rattle.words.specs.Words.{Bytes, wordsOf}
 use Rattle.deposit.specs.Deposit.{deposit, fileOf, countsIn, payoffsIn, readRefusal, tableOf}
-use Rattle.deposit.specs.Meaning.{Doubles}
+use Rattle.table.specs.Meaning.{Doubles}
 use Rattle.deposit.specs.Answers.{readAnswer, readCounts, readPayoffs, writeAnswer, writeBytes}
 use Rattle.deposit.proofs.Back.{read-back, table-read, write-back}
 use Rattle.round_trips.specs.RoundTrips.{writtenRead, readWritten}

@@ -1,7 +1,7 @@
 -- Which survivors are foreign, in quantifiers. Assumes nothing.
-use mathlib.Core.Path.{_≡_, refl, ap}
+use mathlib.Core.Path.{_≡_, ap}
 use mathlib.Core.Bool.{Bool, true, false, not, _&&_}
-use mathlib.Core.List.{List, [], _∷_, List·Memᴰ·head as here, List·Memᴰ·not-nil as not-in-nil}
+use mathlib.Core.List.{List}
 use mathlib.Core.Logic.{_↔_, ⊎-elim}
 use mathlib.Core.Option.{none}
 use Prim.Native.Nat.{ℕ, _+_, _≤_, _<_}
@@ -9,9 +9,9 @@ use native.Mathlib.Omega.{arith}
 use borrow.Author.Count.{below-more}
 use lib.Dec.{T, leb, eqb, leb→le, le→leb}
 use lib.ListN.{length, getD}
-use Rattle.game.specs.Finite.{_∈_, below, filter, empty}
+use Rattle.game.specs.Finite.{below, filter}
 use Rattle.game.specs.Game.{Marks}
-use Rattle.game.proofs.Finite.{and-T, no-T, eqb-T, all-T, filter-mem, below-mem, le-or-lt, test-true, test-false}
+use Rattle.game.proofs.Finite.{and-T, no-T, eqb-T, all-T, filter-mem, some-mem, below-mem, le-or-lt, test-true, test-false}
 use Rattle.refusal.specs.Refusal.{when}
 use Rattle.refusal.specs.declared.NormalFormError.the-variants.{ForeignSurvivors}
 use Rattle.refusal.proofs.Refusal.{when-none}
@@ -26,10 +26,6 @@ use Rattle.survivors.specs.Meaning.{Own}
 pub mark-low : (marks : List Bool) (p s : ℕ) → T (marked marks p s) → s < maxStrategies
 mark-low marks p s h =
     ⊎-elim (λ (b : maxStrategies ≤ s). absurd (rw (mark-past marks p s b) at h)) (λ k. k) (le-or-lt maxStrategies s)
-
-some-mem : {A : Type 0} (xs : List A) → T (not (empty xs)) ↔ ((x : A) × (x ∈ xs))
-some-mem [] = (λ h. absurd h, λ h. absurd (not-in-nil (h .1)))
-some-mem (x ∷ xs) = (λ h. (x, here refl), λ h. tt)
 
 -- A player has a mark at or past s.
 pub marked-from-law : (m : Marks) (p s : ℕ) → T (markedFrom m p s) ↔ ((t : ℕ) × (s ≤ t) × (t < maxStrategies) × T (m p t))

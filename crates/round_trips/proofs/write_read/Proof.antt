@@ -12,7 +12,7 @@ use Rattle.table.specs.Checks.{tableRefusal}
 use Rattle.table.specs.Outputs.{over}
 use Rattle.table.proofs.Outputs.{over-length}
 use Rattle.deposit.specs.Deposit.{deposit}
-use Rattle.deposit.specs.Meaning.{Doubles}
+use Rattle.table.specs.Meaning.{Doubles}
 use Rattle.deposit.specs.Answers.{readAnswer, readCounts, readPayoffs}
 use Rattle.deposit.proofs.Writer.{write-accepted}
 use Rattle.round_trips.proofs.Calls.{taken, write-told, not-written, read-of-written}

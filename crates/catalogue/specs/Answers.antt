@@ -1,0 +1,48 @@
+-- What `number` answers: the definition that its contract names. Assumes nothing.
+use mathlib.Core.Bool.{Bool, cond, _&&_}
+use mathlib.Core.List.{List}
+use mathlib.Core.Option.{Option, none}
+use Prim.Native.Nat.{ℕ, _+_}
+use lib.Dec.{eqb}
+use lib.ListN.{length, getD}
+use lib.Ieee.{Float}
+use Rattle.game.specs.Game.{Game}
+use Rattle.refusal.specs.Refusal.{numberOf}
+use Rattle.refusal.specs.Told.{Told, values, refused, unless, optionUsize}
+use Rattle.table.specs.Table.{cellRank, tableGame}
+use Rattle.table.specs.Checks.{tableRefusal}
+use Rattle.bimatrix.specs.declared.Square.{Square}
+use Rattle.catalogue.specs.declared.NumberResult.{NumberResult}
+use Rattle.catalogue.specs.declared.NumberResult.the-variants.{Ok, Err}
+use Rattle.bimatrix.specs.Squares.{bimatrix}
+use Rattle.bimatrix.specs.Keys.{ranks, strictlyRanked, leastKey}
+use Rattle.catalogue.specs.Catalogue.{place, catalogue}
+
+-- two players, 2 strategies each
+unfoldable pub twoByTwo : List ℕ → Bool
+twoByTwo counts = eqb (length counts) 2 && eqb (getD counts 0 0) 2 && eqb (getD counts 1 0) 2
+
+-- a game's number in a list of keys: for a strictly ranked 2 × 2 game the place of its least key, for any other none
+unfoldable pub gameNumber : List ℕ → Game → Option ℕ
+gameNumber ks g = cond (twoByTwo (g .counts) && strictlyRanked (bimatrix g)) (place ks (leastKey (ranks (bimatrix g)))) none
+
+-- the number in the catalogue of the game that a table is, or 1 to 7
+unfoldable pub numberAnswer : List ℕ → List Float → Told (Option ℕ)
+numberAnswer counts payoffs = unless (tableRefusal counts payoffs) (gameNumber catalogue (tableGame counts payoffs))
+
+-- what the code's answer tells
+abbrev pub toldNumber : NumberResult → Told (Option ℕ)
+toldNumber (Ok n) = values (optionUsize n)
+toldNumber (Err e) = refused (numberOf e)
+
+-- ---- for the walk
+
+-- the ranks of player p's cells, at the four profiles
+abbrev pub cellSquare : List Float → ℕ → Square
+cellSquare payoffs p =
+    record {
+      at00 = cellRank payoffs p;
+      at01 = cellRank payoffs (2 + p);
+      at10 = cellRank payoffs (4 + p);
+      at11 = cellRank payoffs (6 + p);
+    }
