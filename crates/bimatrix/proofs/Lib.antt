@@ -1,3 +1,4 @@
 -- The proofs of this crate that are not of one function.
 pub mod Ranks
 pub mod Swaps
+pub mod Least

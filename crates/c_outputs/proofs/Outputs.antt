@@ -3,11 +3,11 @@
 use mathlib.Core.Path.{_≡_, refl, sym, ap, _∙_}
 use mathlib.Core.Bool.{Bool, true, false, not}
 use mathlib.Core.List.{List, [], _∷_, map}
-use mathlib.Core.Option.{none, some}
+use mathlib.Core.Option.{Option, none, some}
 use Prim.Native.Nat.{ℕ, _+_, _≤_, _<_}
 use native.Mathlib.Omega.{arith}
 use Rattle.refusal.specs.Refusal.{Refusal, _then_}
-use Rattle.refusal.specs.Told.{Told, values, refused, toldUnit, unless, status}
+use Rattle.refusal.specs.Told.{Told, values, refused, toldOf, toldUnit, unless, status}
 use Rattle.refusal.proofs.Told.{told-values}
 use borrow.Author.Count.{below-more}
 use lib.Dec.{eqb}
@@ -20,11 +20,17 @@ use Rattle.table.specs.Answers.{spaceOf, spaceUnless, profilePayoffs}
 use Rattle.table.specs.declared.SpaceResult.{SpaceResult}
 use Rattle.table.proofs.Offsets.{getD-map}
 use Rattle.survivors.specs.declared.Survivors.{Survivors}
-use Rattle.c_outputs.specs.Status.{output, beside, partStart, partLength, survivorsOf, byteOf, markBytes}
+use Rattle.c_outputs.specs.Status.{output, beside, isSome, orZero, partStart, partLength, survivorsOf, byteOf, markBytes}
 
 -- an answer t told into an output, where t is u
 pub told-into : {A : Type 0} (t u : Told A) (n : ℕ) (new old : A) → t ≡ u → (n ≡ status t) × (new ≡ output t old) → (n ≡ status u) × (new ≡ output u old)
 told-into t u n new old e h = rw e at h
+
+-- the same of a number or none, told into two outputs
+pub number-into : (t u : Told (Option ℕ)) (n : ℕ) (l l₀ : Bool) (k k₀ : ℕ) → t ≡ u
+    → (n ≡ status t) × ((l ≡ output (toldOf isSome t) l₀) × (k ≡ output (toldOf orZero t) k₀))
+    → (n ≡ status u) × ((l ≡ output (toldOf isSome u) l₀) × (k ≡ output (toldOf orZero u) k₀))
+number-into t u n l l₀ k k₀ e h = rw e at h
 
 -- what the outputs hold where values v were told, and where a refusal was
 pub told-ok : {A : Type 0} (t : Told A) (v : A) → values v ≡ t

@@ -2,6 +2,7 @@
 -- Assumes nothing.
 use mathlib.Core.Bool.{Bool, true, false, not}
 use mathlib.Core.List.{List, map}
+use mathlib.Core.Option.{Option, none, some}
 use Prim.Native.Nat.{ℕ, _*_}
 use lib.Dec.{eqb}
 use lib.ListN.{length}
@@ -21,6 +22,15 @@ output (refused n) old = old
 abbrev pub beside : {A B : Type 0} → Told A → B → B → B
 beside (values a) v old = v
 beside (refused n) v old = old
+
+-- a number or none goes to C as whether there is one, and the number, 0 where there is none
+abbrev pub isSome : Option ℕ → Bool
+isSome none = false
+isSome (some n) = true
+
+abbrev pub orZero : Option ℕ → ℕ
+orZero none = 0
+orZero (some n) = n
 
 -- a part of the caller's table goes to C as its first place and its length: the P payoffs at offset × P, where the offset call tells it
 abbrev pub partStart : List ℕ → List Float → List ℕ → Told ℕ

@@ -1,6 +1,8 @@
 // What goes between a call and C: an answer into its outputs, which a refused answer leaves as they were, and survivors as C holds them.
+use catalogue::NumberResult;
 use refusal::BoolResult;
 use refusal::UnitResult;
+use refusal::UsizeOption;
 use refusal::UsizeResult;
 use survivors::Survivors;
 use table::MAX_MARKS;
@@ -11,9 +13,10 @@ ghost use mathlib.Core.Path.{_≡_};
 ghost use mathlib.Core.Bool.{not};
 ghost use mathlib.Core.List.{map};
 ghost use lib.Dec.{eqb};
-ghost use Rattle.refusal.specs.Told.{toldUnit, toldUsize, toldBool, status};
+ghost use Rattle.refusal.specs.Told.{toldOf, toldUnit, toldUsize, toldBool, status};
 ghost use Rattle.utility.specs.Value.{toldUtility};
-ghost use Rattle.c_outputs.specs.Status.{output, beside, survivorsOf, byteOf, markBytes};
+ghost use Rattle.catalogue.specs.Answers.{toldNumber};
+ghost use Rattle.c_outputs.specs.Status.{output, beside, isSome, orZero, survivorsOf, byteOf, markBytes};
 
 // ---- an answer into its outputs
 
@@ -56,6 +59,30 @@ pub fn utility_into(answer: UtilityResult, utility: &mut f64) -> u32
             0
         }
         UtilityResult::Err(e) => e.number(),
+    }
+}
+
+// Whether there is a number of the catalogue into `listed`, and the number, 0 where there is none, into `number`.
+pub fn number_into(answer: NumberResult, listed: &mut bool, number: &mut usize) -> u32
+    ensures { λ r. ⌜ r ≡ status (toldNumber answer) ⌝ }
+    ensures { λ r. ⌜ now (listed .exit) ≡ output (toldOf isSome (toldNumber answer)) (now (listed .entry)) ⌝ }
+    ensures { λ r. ⌜ now (number .exit) ≡ output (toldOf orZero (toldNumber answer)) (now (number .entry)) ⌝ }
+{
+    match answer {
+        NumberResult::Ok(told) => {
+            match told {
+                UsizeOption::Some(n) => {
+                    *listed = true;
+                    *number = n;
+                }
+                UsizeOption::None => {
+                    *listed = false;
+                    *number = 0;
+                }
+            }
+            0
+        }
+        NumberResult::Err(e) => e.number(),
     }
 }
 

@@ -1,9 +1,9 @@
 -- The rule of the table of keys, proved by one test that is computed over it and over the 576 tables of ranks (`right`), and one law that
 -- turns the test into what it means (`right-law`): the keys are ascending, each is the least key of a strictly ranked table, and each
--- such table's least key is there (`catalogue-rule`); and two strictly ranked tables have one least key exactly where swapping rows,
+-- such table's least key is there (`catalogue-rule`); no two of the 576 have one key (`key-once`); and two strictly ranked tables have one least key exactly where swapping rows,
 -- columns, both or neither turns the ranks of one into those of the other (`least-swapped`): swaps have one least key, and the table that
 -- the least key spells is one of the four. Assumes nothing.
-use mathlib.Core.Path.{_≡_, refl}
+use mathlib.Core.Path.{_≡_, refl, sym, ap, _∙_}
 use mathlib.Core.Bool.{Bool, true, not, _&&_}
 use mathlib.Core.List.{List, [], _∷_, flatMap}
 use mathlib.Core.Logic.{_↔_}
@@ -53,11 +53,13 @@ entry : ℕ → Bool
 unfolding spelt
 entry k = strictlyRanked (spelt k) && eqb (leastKey (ranks (spelt k))) k
 
--- the least key of r is among the keys ks, is that of each swap of r, and spells one of them
+-- the key of r spells r, and the least key of r is among the keys ks, is that of each swap of r, and spells one of them
 settled : List ℕ → Bimatrix → Bool
 unfolding spelt
 settled ks r =
-    some (eqb (leastKey r)) ks && all (λ q. eqb (leastKey r) (leastKey q)) (swaps r) && some (same (spelt (leastKey r))) (swaps r)
+    same (spelt (key r)) r
+    && some (eqb (leastKey r)) ks
+    && (all (λ q. eqb (leastKey r) (leastKey q)) (swaps r) && some (same (spelt (leastKey r))) (swaps r))
 
 right : List ℕ → Bool
 unfolding ascending entry settled
@@ -74,6 +76,7 @@ ascending-sorted (x ∷ xs) h =
 
 -- what the test means for a list of keys
 record Right (ks : List ℕ) : Type 0 where
+  once : (r q : Bimatrix) → r ∈ rankings → q ∈ rankings → key r ≡ key q → r ≡ q
   rule : Lists _<_ LeastKey ks
   swapped : (b c : Bimatrix) → T (strictlyRanked b) → T (strictlyRanked c) → (leastKey (ranks b) ≡ leastKey (ranks c)) ↔ Swapped (ranks b) (ranks c)
 
@@ -92,28 +95,37 @@ module _ (ks : List ℕ) (h : T (right ks)) where
       (spelt k, t, eqb-T (leastKey (ranks (spelt k))) k .0 e)
 
   module _ (r : Bimatrix) (l : r ∈ rankings) where
-    three : T (some (eqb (leastKey r)) ks) × T (all (λ q. eqb (leastKey r) (leastKey q)) (swaps r)) × T (some (same (spelt (leastKey r))) (swaps r))
+    four : T (same (spelt (key r)) r)
+        × T (some (eqb (leastKey r)) ks)
+        × T (all (λ q. eqb (leastKey r) (leastKey q)) (swaps r))
+        × T (some (same (spelt (leastKey r))) (swaps r))
     unfolding settled
-    three =
-        let (u, c) =
-        and-T (some (eqb (leastKey r)) ks && all (λ q. eqb (leastKey r) (leastKey q)) (swaps r)) (some (same (spelt (leastKey r))) (swaps r)) .0
+    four =
+        let (u, v) =
+        and-T (same (spelt (key r)) r && some (eqb (leastKey r)) ks)
+        (all (λ q. eqb (leastKey r) (leastKey q)) (swaps r) && some (same (spelt (leastKey r))) (swaps r)) .0
         (all-T (settled ks) rankings .0 (parts .2) r l)
         in
-        let (a, b) = and-T (some (eqb (leastKey r)) ks) (all (λ q. eqb (leastKey r) (leastKey q)) (swaps r)) .0 u in
-        (a, b, c)
+        let (a, b) = and-T (same (spelt (key r)) r) (some (eqb (leastKey r)) ks) .0 u in
+        let (c, d) = and-T (all (λ q. eqb (leastKey r) (leastKey q)) (swaps r)) (some (same (spelt (leastKey r))) (swaps r)) .0 v in
+        (a, b, c, d)
+
+    own : spelt (key r) ≡ r
+    own = same-law (spelt (key r)) r (four .0)
 
     listed : leastKey r ∈ ks
-    listed = let (k, m, t) = some-T (eqb (leastKey r)) ks (three .0) in rw (eqb-T (leastKey r) k .0 t) m
+    listed = let (k, m, t) = some-T (eqb (leastKey r)) ks (four .1) in rw (eqb-T (leastKey r) k .0 t) m
 
     one-least : (q : Bimatrix) → Swapped r q → leastKey r ≡ leastKey q
-    one-least q m = eqb-T (leastKey r) (leastKey q) .0 (all-T (λ s. eqb (leastKey r) (leastKey s)) (swaps r) .0 (three .1) q m)
+    one-least q m = eqb-T (leastKey r) (leastKey q) .0 (all-T (λ s. eqb (leastKey r) (leastKey s)) (swaps r) .0 (four .2) q m)
 
     spells : Swapped r (spelt (leastKey r))
-    spells = let (q, m, t) = some-T (same (spelt (leastKey r))) (swaps r) (three .2) in rw (same-law (spelt (leastKey r)) q t) m
+    spells = let (q, m, t) = some-T (same (spelt (leastKey r))) (swaps r) (four .3) in rw (same-law (spelt (leastKey r)) q t) m
 
   right-law : Right ks
   right-law =
       record {
+        once = λ r q h k e. sym (own r h) ∙ ap spelt e ∙ own q k;
         rule =
             record {
               members = λ k. (entry-least k, λ (b, t, e). rw (← e) (listed (ranks b) (ranks-listed b t)));
@@ -132,6 +144,10 @@ module _ (ks : List ℕ) (h : T (right ks)) where
 passes : T (right catalogue)
 unfolding flatMap profiles rankAmong different strictlyRanked key leastKey orders rankings catalogue ascending spelt entry settled right
 passes = tt
+
+-- no two of the 576 have one key
+pub key-once : (r q : Bimatrix) → r ∈ rankings → q ∈ rankings → key r ≡ key q → r ≡ q
+key-once = right-law catalogue passes .once
 
 -- ascending, just the least keys of the strictly ranked tables
 pub catalogue-rule : Lists _<_ LeastKey catalogue

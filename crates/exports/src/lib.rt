@@ -14,7 +14,7 @@ ghost use mathlib.Core.List.{map};
 ghost use Rattle.game.specs.Finite.{all};
 ghost use Rattle.game.specs.Game.{strategy as named};
 ghost use lib.ListN.{length};
-ghost use Rattle.refusal.specs.Told.{unless, status};
+ghost use Rattle.refusal.specs.Told.{unless, toldOf, status};
 ghost use Rattle.utility.specs.Order.{finite};
 ghost use Rattle.utility.specs.Value.{utilityAnswer};
 ghost use Rattle.table.specs.Checks.{countsRefusal, tableRefusal};
@@ -27,8 +27,9 @@ ghost use Rattle.strict_dominance.specs.Answers.{strategiesOf, dominatorsOf, do
 ghost use Rattle.survivors.specs.Survivors.{freshOf};
 ghost use Rattle.survivors.specs.Answers.{strikeAnswer, strikeLeaves, survivingAnswer, survivingChoices, survivingUtilities, callsOf, dominatorOf, strikesAnswer, strikesLeave, strikesWritten};
 ghost use Rattle.deposit.specs.Answers.{readAnswer, readCounts, readPayoffs, writeAnswer, writeBytes};
+ghost use Rattle.catalogue.specs.Answers.{numberAnswer};
 ghost use Rattle.candidates.specs.Checks.{incentives, verdictOf, minimax};
-ghost use Rattle.c_outputs.specs.Status.{output, beside, partStart, partLength, survivorsOf, markBytes};
+ghost use Rattle.c_outputs.specs.Status.{output, beside, isSome, orZero, partStart, partLength, survivorsOf, markBytes};
 
 // `Utility::new`: the value into `utility`, or 7.
 #[no_mangle]
@@ -395,6 +396,21 @@ pub extern "C" fn sigvanyor_write(
 {
     let answer = deposit::write(counts, payoffs, bytes);
     c_outputs::usize_into(answer, number)
+}
+
+// `number`: whether the table is in the catalogue into `listed`, and its number, 0 where it is not, into `number`, or 1 to 7.
+#[no_mangle]
+pub extern "C" fn sigvanyor_number(
+    counts: &[usize],
+    payoffs: &[f64],
+    listed: &mut bool,
+    number: &mut usize,
+) -> u32
+    ensures { λ r. ⌜ r ≡ status (numberAnswer (now (counts .entry)) (now (payoffs .entry))) ⌝ }
+    ensures { λ r. ⌜ now (listed .exit) ≡ output (toldOf isSome (numberAnswer (now (counts .entry)) (now (payoffs .entry)))) (now (listed .entry)) ⌝ }
+    ensures { λ r. ⌜ now (number .exit) ≡ output (toldOf orZero (numberAnswer (now (counts .entry)) (now (payoffs .entry)))) (now (number .entry)) ⌝ }
+{
+    c_outputs::number_into(catalogue::number(counts, payoffs), listed, number)
 }
 
 // `verify_correlated_equilibrium_incentives`: the greatest gain, or infinity.
