@@ -9,14 +9,10 @@ use Rattle.utility.specs.Order.{finite, key, rank}
 use Rattle.table.specs.Table.{offset, payoffAt, tableGame}
 use Rattle.table.specs.Checks.{countRefusal, countsRefusal, payoffsRefusal, tableRefusal, playerRefusal}
 use Rattle.table.specs.Outputs.{roomRefusal, over}
-use Rattle.table.proofs.Examples.{minus-zero, zero, zeros, ties, pair, dilemma}
+use Rattle.table.proofs.Examples.{zeros, ties, pair, dilemma}
 use Rattle.best_response.specs.Answers.{opponentsRefusal, responses, responseUtilities, responsesAnswer, responsesWritten}
 
 record Computed : Type 0 where
-  -- both zeros are best, each with its own bits
-  zeros-listed : responses (2 ∷ []) zeros 0 [] ≡ 0 ∷ 1 ∷ []
-  zeros-told : responsesAnswer (2 ∷ []) zeros 0 [] 2 2 ≡ values 2
-  zeros-paid : responseUtilities (2 ∷ []) zeros 0 [] (responsesWritten (2 ∷ []) zeros 0 [] 2 2) ≡ minus-zero ∷ zero ∷ []
   -- of 1 5 5 the last two are; an output longer than needed keeps its rest
   ties-listed : responses (3 ∷ []) ties 0 [] ≡ 1 ∷ 2 ∷ []
   ties-told : responsesAnswer (3 ∷ []) ties 0 [] 2 3 ≡ values 2
@@ -38,9 +34,6 @@ computed : Computed
 unfolding countRefusal countsRefusal payoffsRefusal tableRefusal playerRefusal opponentsRefusal roomRefusal responses responseUtilities responsesAnswer whole gains bestResponse bestResponses tableGame payoffAt offset finite key rank Ieee.ofBits Ieee.toBits
 computed =
     record {
-      zeros-listed = refl;
-      zeros-told = refl;
-      zeros-paid = refl;
       ties-listed = refl;
       ties-told = refl;
       ties-written = refl;

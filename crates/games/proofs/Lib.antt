@@ -1,2 +1,3 @@
--- Games computed.
+-- Games computed by the definitions.
+pub mod Games
 pub mod Strikes

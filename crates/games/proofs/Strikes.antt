@@ -1,4 +1,4 @@
--- Document 01's games that speak of strikes, computed: each is true by the definitions alone. Assumes nothing.
+-- Lists of strikes, survivors and refusals on document 01's games, computed: each is true by the definitions alone. Assumes nothing.
 use mathlib.Core.Path.{_≡_, refl}
 use mathlib.Core.Bool.{false}
 use mathlib.Core.List.{List, [], _∷_, flatMap}
@@ -16,15 +16,11 @@ use Rattle.table.specs.Table.{offset, payoffAt, profilePart, tableGame}
 use Rattle.table.specs.Marks.{marked}
 use Rattle.table.specs.Checks.{countRefusal, countsRefusal, payoffsRefusal, tableRefusal}
 use Rattle.table.specs.Outputs.{roomRefusal}
-use Rattle.table.proofs.Examples.{zero, one, ties, pair, dilemma}
+use Rattle.table.proofs.Examples.{ties, pair, dilemma, after}
 use Rattle.pure_nash.specs.Answers.{listingAnswer, listedChoices}
 use Rattle.survivors.specs.declared.Survivors.{Survivors}
 use Rattle.survivors.specs.Survivors.{withoutMark, markCount, allMarks, freshOf, noSurvivors, markedFrom, foreign}
 use Rattle.survivors.specs.Answers.{strikeAnswer, strikeLeaves, survivingAnswer, survivingChoices, chain, strikesAnswer}
-
--- (1,1) (0,0) (0,1) (1,0)
-abbrev after : List Float
-after = one ∷ one ∷ zero ∷ zero ∷ zero ∷ one ∷ one ∷ zero ∷ []
 
 -- the answers to a list of calls
 abbrev answers : List ℕ → List Float → List Strategy → List (Told ℕ)
@@ -38,9 +34,8 @@ abbrev left : Survivors
 left = chain pair dilemma both .survivors
 
 record Computed : Type 0 where
-  -- one player, 1 5 5: strike 0 answers 1, and repeated it gives 14; strike 1 gives 15
+  -- lists of strikes, accepted and refused mixed
   tied : answers (3 ∷ []) ties (strategy 0 0 ∷ strategy 0 1 ∷ strategy 0 0 ∷ []) ≡ values 1 ∷ refused 15 ∷ refused 14 ∷ []
-  -- player 0's 1 gives 15, and after player 1's 1 is struck it answers 0
   in-turn : answers pair after (strategy 0 1 ∷ strategy 1 1 ∷ strategy 0 1 ∷ []) ≡ refused 15 ∷ values 0 ∷ values 0 ∷ []
   -- the prisoner's dilemma: what is left, and the equilibria over it
   dilemma-struck : answers pair dilemma both ≡ values 1 ∷ values 1 ∷ []

@@ -1,4 +1,4 @@
--- Document 01's small games, computed: each line is true by the contracts' own definitions. Assumes nothing.
+-- Small tables computed: each line is true by the contracts' own definitions. `games` has document 01's. Assumes nothing.
 use mathlib.Core.Path.{_≡_, refl}
 use mathlib.Core.Bool.{true, false}
 use mathlib.Core.List.{[], _∷_, flatMap}
@@ -11,16 +11,11 @@ use Rattle.utility.specs.Order.{finite, key, rank}
 use Rattle.table.specs.Table.{offset, payoffAt, profilePart, tableGame}
 use Rattle.table.specs.Checks.{countRefusal, countsRefusal, payoffsRefusal, tableRefusal, profileRefusal}
 use Rattle.table.specs.Outputs.{roomRefusal, over}
-use Rattle.table.proofs.Examples.{minus-zero, zero, one, two, zeros, ties, pair, dilemma, pennies, twice}
+use Rattle.table.proofs.Examples.{minus-zero, zero, one, two, zeros, pair, dilemma, pennies, twice}
 use Rattle.pure_nash.specs.Answers.{tableEquilibria, isEquilibriumAnswer, countAnswer, listingAnswer, listedChoices, listedUtilities, equilibriaAnswer, equilibriaChoices, equilibriaUtilities}
 
 record Computed : Type 0 where
-  -- 1 1 alone; none; 0 0 and 1 1
-  dilemma-listed : tableEquilibria pair dilemma ≡ (1 ∷ 1 ∷ []) ∷ []
-  pennies-listed : tableEquilibria pair pennies ≡ []
-  twice-listed : tableEquilibria pair twice ≡ (0 ∷ 0 ∷ []) ∷ (1 ∷ 1 ∷ []) ∷ []
   -- one player: every best strategy is one, and both zeros are best
-  ties-listed : tableEquilibria (3 ∷ []) ties ≡ (1 ∷ []) ∷ (2 ∷ []) ∷ []
   zeros-listed : tableEquilibria (2 ∷ []) zeros ≡ (0 ∷ []) ∷ (1 ∷ []) ∷ []
   -- what the calls tell
   dilemma-counted : countAnswer pair dilemma ≡ values 1
@@ -47,10 +42,6 @@ computed : Computed
 unfolding flatMap Ieee.toBits Ieee.ofBits strategies profiles whole inside gains deviations equilibrium equilibria finite key rank offset payoffAt profilePart tableGame countRefusal countsRefusal payoffsRefusal tableRefusal profileRefusal roomRefusal isEquilibriumAnswer countAnswer listingAnswer listedChoices listedUtilities
 computed =
     record {
-      dilemma-listed = refl;
-      pennies-listed = refl;
-      twice-listed = refl;
-      ties-listed = refl;
       zeros-listed = refl;
       dilemma-counted = refl;
       pennies-counted = refl;

@@ -1,4 +1,4 @@
--- Document 01's table of 2, 3 and 4 strategies, and the refusals' order at the limits, computed: each is true by the definitions alone.
+-- A table of 2, 3 and 4 strategies, and the refusals' order at the limits, computed: each is true by the definitions alone.
 -- Assumes nothing.
 use mathlib.Core.Path.{_≡_, refl}
 use mathlib.Core.Bool.{true, false}
@@ -28,10 +28,8 @@ one : Float
 one = fin false 1 (pos 0)
 
 record Computed : Type 0 where
-  -- 24 profiles, the last of which has the offset 23
+  -- 24 profiles
   all-cells : cells counts ≡ 72
-  last-offset : offset counts (1 ∷ 2 ∷ 3 ∷ []) ≡ 23
-  last-cell : cell counts (1 ∷ 2 ∷ 3 ∷ []) 2 ≡ 71
   first-offset : offset counts (0 ∷ 0 ∷ 0 ∷ []) ≡ 0
   -- a profile's cells stand side by side
   inner-cell : cell counts (0 ∷ 1 ∷ 2 ∷ []) 1 ≡ 19
@@ -67,8 +65,6 @@ unfolding counts many one offset stride countRefusal countsRefusal payoffsRefusa
 computed =
     record {
       all-cells = refl;
-      last-offset = refl;
-      last-cell = refl;
       first-offset = refl;
       inner-cell = refl;
       strides = refl;

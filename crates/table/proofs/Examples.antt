@@ -41,6 +41,10 @@ dilemma = two ∷ two ∷ zero ∷ three ∷ three ∷ zero ∷ one ∷ one ∷ 
 abbrev pub pennies : List Float
 pennies = one ∷ zero ∷ zero ∷ one ∷ zero ∷ one ∷ one ∷ zero ∷ []
 
+-- (1,1) (0,0) (0,1) (1,0)
+abbrev pub after : List Float
+after = one ∷ one ∷ zero ∷ zero ∷ zero ∷ one ∷ one ∷ zero ∷ []
+
 -- (2,2) (0,0) (0,0) (1,1)
 abbrev pub twice : List Float
 twice = two ∷ two ∷ zero ∷ zero ∷ zero ∷ zero ∷ one ∷ one ∷ []
