@@ -18,7 +18,8 @@ use Rattle.game.specs.Finite.{_∈_, all, filter, Sorted}
 use Rattle.game.specs.Game.{Game, Profile, profiles}
 use Rattle.game.proofs.Finite.{and-T, no-T, eqb-T, all-T, filter-cong, test-true, test-false}
 use Rattle.game.proofs.Game.{profiles-law, profiles-once}
-use Rattle.refusal.specs.Told.{values}
+use Rattle.refusal.specs.Refusal.{Refusal}
+use Rattle.refusal.specs.Told.{values, unless}
 use Rattle.utility.specs.Order.{key as orderKey, rank}
 use Rattle.utility.proofs.Rank.{rank-lt, rank-eq}
 use Rattle.table.specs.Table.{cell, payoffAt, tableGame}
@@ -196,7 +197,7 @@ module _ (counts : List ℕ) (payoffs : List Float) (d : Doubles payoffs) where
 
   answer-is : tableRefusal counts payoffs ≡ none → numberAnswer counts payoffs ≡ values (gameNumber catalogue (tableGame counts payoffs))
   unfolding numberAnswer
-  answer-is a = rw a
+  answer-is a = ap (λ (r : Refusal). unless r (gameNumber catalogue (tableGame counts payoffs))) a
 
   -- a strictly ranked table has a number below 144, at which its least key stands
   pub numbered : StrictlyRanked counts payoffs

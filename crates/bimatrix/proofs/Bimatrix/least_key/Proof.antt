@@ -1,6 +1,9 @@
 -- `bimatrix::Bimatrix::least_key` meets its contract: the four keys are those of the definition's four tables. Assumes nothing.
+use mathlib.Core.Path.{ap, ap₂, _∙_}
+use Prim.Native.Nat.{min}
 use borrow.Author.Needs.{needs}
-use Rattle.bimatrix.specs.Keys.{leastKey}
+use Rattle.bimatrix.specs.Squares.{swapRows, both}
+use Rattle.bimatrix.specs.Keys.{key, leastKey}
 use Rattle.bimatrix.proofs.Bimatrix.least_key.Statement.{statement}
 use Rattle.bimatrix.proofs.Bimatrix.least_key.Tie as tie
 
@@ -37,18 +40,14 @@ lower-requires-3 c κs = search needs
 returns : tie.Need-returns
 unfolding leastKey
 returns c =
-    rw (
-      c .lower3 .ensures,
-      c .before .lower2 .ensures,
-      c .before .before .lower .ensures,
-      c .before .before .before .key4 .ensures,
-      c .before .before .before .before .key3 .ensures,
-      c .before .before .before .before .before .key2 .ensures,
-      c .before .before .before .before .before .before .key .ensures,
-      c .before .before .before .before .before .before .before .swap-rows2 .ensures,
-      c .before .before .before .before .before .before .before .before .swap-rows .ensures,
-      c .before .before .before .before .before .before .before .before .before .swap-columns .ensures,
-    )
+    let k = c .before .before .before in
+    let m = k .before .before .before .before in
+    let self-key = k .key4 .ensures in
+    let both-key = k .before .key3 .ensures ∙ ap key (m .swap-rows2 .ensures ∙ ap (both swapRows) (m .before .before .swap-columns .ensures)) in
+    let columns-key = k .before .before .key2 .ensures ∙ ap key (m .before .before .swap-columns .ensures) in
+    let rows-key = k .before .before .before .key .ensures ∙ ap key (m .before .swap-rows .ensures) in
+    c .lower3 .ensures
+    ∙ ap₂ min rows-key (c .before .lower2 .ensures ∙ ap₂ min columns-key (c .before .before .lower .ensures ∙ ap₂ min both-key self-key))
 
 pub least-key-spec : {M : Type 1} → statement M
 least-key-spec =
