@@ -177,6 +177,13 @@ uint32_t sigvanyor_read(const uint8_t *bytes, size_t bytes_len, size_t *counts, 
 uint32_t sigvanyor_write(const size_t *counts, size_t counts_len, const double *payoffs, size_t payoffs_len,
                          uint8_t *bytes, size_t bytes_len, size_t *number);
 
+/* A table's number in the catalogue, 0 to 143: whether it has one into `listed`, and the number, 0 where it has none, into `number`; or
+ * 1 to 7. A table has one where there are two players with 2 strategies each, and no two of a player's four payoffs are equal, as 0.0 and
+ * -0.0 are. Two such tables have the same number exactly where swapping rows, columns, both or neither turns the ranks of one's payoffs
+ * into the other's. */
+uint32_t sigvanyor_number(const size_t *counts, size_t counts_len, const double *payoffs, size_t payoffs_len,
+                          bool *listed, size_t *number);
+
 /* The most that a player gains by another action in place of one, under the weights that someone claims to be a correlated
  * equilibrium: for each two rows i and k the sum, from 0.0 and over the columns ascending, of weights(i,j) x (u1(k,j) - u1(i,j)),
  * each operation rounded; for two columns likewise, over the rows ascending, with u2. +0.0 where no gain is above 0. Infinity where a
