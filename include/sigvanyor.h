@@ -177,10 +177,11 @@ uint32_t sigvanyor_read(const uint8_t *bytes, size_t bytes_len, size_t *counts, 
 uint32_t sigvanyor_write(const size_t *counts, size_t counts_len, const double *payoffs, size_t payoffs_len,
                          uint8_t *bytes, size_t bytes_len, size_t *number);
 
-/* A table's number in the catalogue, 0 to 143: whether it has one into `listed`, and the number, 0 where it has none, into `number`; or
- * 1 to 7. A table has one where there are two players with 2 strategies each, and no two of a player's four payoffs are equal, as 0.0 and
- * -0.0 are. Two such tables have the same number exactly where swapping rows, columns, both or neither turns the ranks of one's payoffs
- * into the other's. */
+/* A table's number in the catalogue, 0 to 143: whether it has one into `listed`, and the number, 0 where it has none, into `number`; or a
+ * refusal of 1 to 7. A table has one where there are two players with 2 strategies each, and no two of a player's four payoffs are equal,
+ * as 0.0 and -0.0 are. Its key is eight base-4 digits, the first one highest: the ranks, 0 to 3 from the least, of player 0's payoffs at
+ * the four profiles in order, then player 1's. The least key of the four tables got by swapping rows, columns or both is one of 144, and
+ * the number is its place among these, ascending. */
 uint32_t sigvanyor_number(const size_t *counts, size_t counts_len, const double *payoffs, size_t payoffs_len,
                           bool *listed, size_t *number);
 

@@ -5,10 +5,11 @@ use mathlib.Core.Logic.{⊎-elim}
 use Prim.Native.Nat.{ℕ, min, _≤_, _<_}
 use native.Mathlib.Nat.{min-le-left, min-le-right, min-eq-left, min-eq-right}
 use native.Mathlib.Omega.{arith}
+use lib.ListN.{drop}
 use Rattle.game.specs.Finite.{_∈_}
 use Rattle.game.proofs.Finite.{le-or-lt}
 use Rattle.bimatrix.specs.declared.Bimatrix.{Bimatrix}
-use Rattle.bimatrix.specs.Squares.{swapRows, swapColumns, both, swaps}
+use Rattle.bimatrix.specs.Matrices.{swaps}
 use Rattle.bimatrix.specs.Keys.{key, least, leastKey}
 use Rattle.bimatrix.specs.Meaning.{Swapped}
 
@@ -29,7 +30,6 @@ least-of x (z ∷ zs) =
 pub least-law : (b : Bimatrix) → ((c : Bimatrix) × Swapped b c × (leastKey b ≡ key c)) × ((c : Bimatrix) → Swapped b c → leastKey b ≤ key c)
 unfolding leastKey
 least-law b =
-    let others = map key (both swapRows b ∷ both swapColumns b ∷ both (λ q. swapRows (swapColumns q)) b ∷ []) in
-    let (i, low) = least-of (key b) others in
+    let (i, low) = least-of (key b) (map key (drop 1 (swaps b))) in
     let (c, h, e) = of-map key (swaps b) i in
     ((c, h, sym e), λ d k. low (key d) (to-map key k))

@@ -3,18 +3,17 @@
 use mathlib.Core.Path.{_≡_, refl, sym, ap, ap₂, _∙_}
 use mathlib.Core.Bool.{Bool, true, false, not, cond, _&&_}
 use mathlib.Core.List.{List, [], _∷_, map, List·Memᴰ·head as here, List·Memᴰ·tail as there, List·Memᴰ·not-nil as not-in-nil, List·Memᴰ·cases-cons as in-cons}
-use mathlib.Core.Logic.{_↔_, ⊎-elim}
+use mathlib.Core.Logic.{_↔_, _≢_, ⊎-elim}
 use Prim.Native.Nat.{ℕ, _+_, _≤_, _<_}
 use native.Mathlib.Omega.{arith}
 use borrow.Author.Tests.{eq-eqb, ne-eqb}
 use lib.Dec.{T, ltb, eqb}
 use lib.ListN.{length}
-use Rattle.game.specs.Finite.{_∈_, all, filter}
-use Rattle.game.proofs.Finite.{ltb-T, le-or-lt, filter-at-most}
+use Rattle.game.specs.Finite.{_∈_, all, filter, Sorted}
+use Rattle.game.proofs.Finite.{and-T, no-T, ltb-T, eqb-T, le-or-lt, all-T, filter-at-most}
 use Rattle.bimatrix.specs.declared.Bimatrix.{Bimatrix}
-use Rattle.bimatrix.specs.Squares.{inOrder}
-use Rattle.bimatrix.specs.Keys.{rankAmong, ranks, different, strictlyRanked}
-use Rattle.bimatrix.specs.Keys.{oneIfLess}
+use Rattle.bimatrix.specs.Matrices.{inOrder}
+use Rattle.bimatrix.specs.Keys.{rankAmong, oneIfLess, ranks, different, strictlyRanked}
 
 -- ---- how many pass a test
 
@@ -50,7 +49,7 @@ module _ {A : Type 0} where
       ⊎-elim (λ (e : x ≡ y). omega (arith, passed f y ys, one-failed (f y) (rw e at n), filter-at-most f ys))
       (λ k. omega (arith, passed f y ys, one-at-most (f y) true (λ _. tt), not-all f ys x k n)) (in-cons h)
 
-  -- a test that passes wherever another does passes as often, and more often where it passes alone
+  -- a test that passes wherever another does passes at least as often, and more often where it passes alone
   module _ (f g : A → Bool) (imp : (z : A) → T (f z) → T (g z)) where
     no-fewer : (xs : List A) → length (filter f xs) ≤ length (filter g xs)
     no-fewer [] = omega arith
@@ -96,6 +95,17 @@ rank-same xs x y h k =
     (le-or-lt x y)
 
 -- ---- no two are equal
+
+pub different-law : (xs : List ℕ) → T (different xs) ↔ Sorted (λ x y. x ≢ y) xs
+unfolding different
+different-law [] = (λ h. tt, λ h. tt)
+different-law (x ∷ xs) =
+    let test : ℕ → Bool = λ y. not (eqb x y) in
+    let (to, from) = and-T (all test xs) (different xs) in
+    let (down, up) = different-law xs in (
+      λ t. (λ y k e. no-T (eqb x y) .0 (all-T test xs .0 (to t .0) y k) (eqb-T x y .1 e), down (to t .1)),
+      λ h. from (all-T test xs .1 (λ y k. no-T (eqb x y) .1 (λ t. h .0 y k (eqb-T x y .0 t))), up (h .1)),
+    )
 
 module _ (xs : List ℕ) where
   from-others : (x : ℕ) (ys : List ℕ) → x ∈ xs → ((y : ℕ) → y ∈ ys → y ∈ xs)

@@ -1,4 +1,4 @@
--- Swaps undo each other and follow one another (`swap-back`, `swap-again`), and what they mean: row i of the table with its rows swapped
+-- A swap undoes itself, and two swaps are a swap (`swap-back`, `swap-again`). What they mean: row i of the table with its rows swapped
 -- is row 1 − i (`rows-law`, `columns-law`), and the ranks of the four tables are the four tables of ranks (`ranks-swaps`), since how many
 -- are less does not depend on where they stand. Assumes nothing.
 use mathlib.Core.Path.{_≡_, refl, ap, ap₂, _∙_}
@@ -8,9 +8,9 @@ use Prim.Native.Nat.{ℕ, _-_}
 use native.Mathlib.Omega.{arith}
 use lib.ListN.{set}
 use Rattle.game.specs.Game.{choice, profiles}
-use Rattle.bimatrix.specs.declared.Square.{Square}
+use Rattle.bimatrix.specs.declared.Matrix.{Matrix}
 use Rattle.bimatrix.specs.declared.Bimatrix.{Bimatrix}
-use Rattle.bimatrix.specs.Squares.{squareOf, inOrder, swapRows, swapColumns, both, swaps}
+use Rattle.bimatrix.specs.Matrices.{matrixOf, inOrder, swapRows, swapColumns, bimatrixOf, both, swaps}
 use Rattle.bimatrix.specs.Keys.{rankAmong, ranked, ranks}
 use Rattle.bimatrix.specs.Meaning.{Swapped}
 use Rattle.bimatrix.proofs.Ranks.{rank-four}
@@ -18,16 +18,16 @@ use Rattle.bimatrix.proofs.Ranks.{rank-four}
 -- ---- profiles
 
 -- the numbers stand in profile order
-pub order-law : (f : List ℕ → ℕ) → inOrder (squareOf f) ≡ map f (profiles (2 ∷ 2 ∷ []))
+pub order-law : (f : List ℕ → ℕ) → inOrder (matrixOf f) ≡ map f (profiles (2 ∷ 2 ∷ []))
 unfolding profiles flatMap
 order-law f = refl
 
 -- the table with its rows swapped has at each profile what the table has at that of the other row
-pub rows-law : (f : List ℕ → ℕ) → swapRows (squareOf f) ≡ squareOf (λ x. f (set x 0 (1 - choice x 0)))
+pub rows-law : (f : List ℕ → ℕ) → swapRows (matrixOf f) ≡ matrixOf (λ x. f (set x 0 (1 - choice x 0)))
 rows-law f = refl
 
 -- and with its columns swapped, what it has at that of the other column
-pub columns-law : (f : List ℕ → ℕ) → swapColumns (squareOf f) ≡ squareOf (λ x. f (set x 1 (1 - choice x 1)))
+pub columns-law : (f : List ℕ → ℕ) → swapColumns (matrixOf f) ≡ matrixOf (λ x. f (set x 1 (1 - choice x 1)))
 columns-law f = refl
 
 -- ---- the four swaps
@@ -75,14 +75,14 @@ module _ (a b c d x : ℕ) where
   rank-columns : rankAmong (b ∷ a ∷ d ∷ c ∷ []) x ≡ rankAmong (a ∷ b ∷ c ∷ d ∷ []) x
   rank-columns = omega (arith, rank-four a b c d x, rank-four b a d c x)
 
-rows-ranked : (q : Square) → ranked (swapRows q) ≡ swapRows (ranked q)
+rows-ranked : (q : Matrix) → ranked (swapRows q) ≡ swapRows (ranked q)
 rows-ranked q = simp (rank-rows (q .at00) (q .at01) (q .at10) (q .at11))
 
-columns-ranked : (q : Square) → ranked (swapColumns q) ≡ swapColumns (ranked q)
+columns-ranked : (q : Matrix) → ranked (swapColumns q) ≡ swapColumns (ranked q)
 columns-ranked q = simp (rank-columns (q .at00) (q .at01) (q .at10) (q .at11))
 
-both-ranked : (f : Square → Square) → ((q : Square) → ranked (f q) ≡ f (ranked q)) → (b : Bimatrix) → ranks (both f b) ≡ both f (ranks b)
-both-ranked f h b = ap₂ (λ (a c : Square). let r : Bimatrix = record { first = a; second = c } in r) (h (b .first)) (h (b .second))
+both-ranked : (f : Matrix → Matrix) → ((q : Matrix) → ranked (f q) ≡ f (ranked q)) → (b : Bimatrix) → ranks (both f b) ≡ both f (ranks b)
+both-ranked f h b = ap₂ bimatrixOf (h (b .first)) (h (b .second))
 
 -- the ranks of the four tables are the four tables of ranks
 pub ranks-swaps : (b : Bimatrix) → map ranks (swaps b) ≡ swaps (ranks b)

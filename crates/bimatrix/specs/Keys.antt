@@ -5,9 +5,9 @@ use Prim.Native.Nat.{ℕ, _+_, _*_, min}
 use lib.Dec.{ltb, eqb}
 use lib.ListN.{length}
 use Rattle.game.specs.Finite.{all, filter}
-use Rattle.bimatrix.specs.declared.Square.{Square}
+use Rattle.bimatrix.specs.declared.Matrix.{Matrix}
 use Rattle.bimatrix.specs.declared.Bimatrix.{Bimatrix}
-use Rattle.bimatrix.specs.Squares.{inOrder, both, swaps}
+use Rattle.bimatrix.specs.Matrices.{inOrder, both, swaps}
 
 -- ---- ranks
 
@@ -15,12 +15,12 @@ use Rattle.bimatrix.specs.Squares.{inOrder, both, swaps}
 unfoldable pub rankAmong : List ℕ → ℕ → ℕ
 rankAmong xs x = length (filter (λ y. ltb y x) xs)
 
--- 1 where a is less than b, else 0: what a walk adds up to a rank
+-- 1 where a is less than b, else 0: a rank is the sum of these
 unfoldable pub oneIfLess : ℕ → ℕ → ℕ
 oneIfLess a b = cond (ltb a b) 1 0
 
 -- the ranks of a player's four numbers
-abbrev pub ranked : Square → Square
+abbrev pub ranked : Matrix → Matrix
 ranked q =
     record {
       at00 = rankAmong (inOrder q) (q .at00);

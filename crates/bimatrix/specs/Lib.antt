@@ -1,4 +1,4 @@
 -- The definitions of this crate, to be read in this order.
-pub mod Squares
+pub mod Matrices
 pub mod Keys
 pub mod Meaning

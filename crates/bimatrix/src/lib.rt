@@ -1,24 +1,24 @@
-// Tables of two rows and two columns, a number for each of the two players at each profile: swapping rows and columns, and the key that
-// document 01, "The catalogue", makes of ranks. Any numbers may be handed in.
+// Games of two players with 2 strategies each, as two matrices of numbers: swapping rows and columns, and the key that document 01, "The
+// catalogue", makes of ranks. Any numbers may be handed in.
 ghost use mathlib.Core.Path.{_≡_};
 ghost use Prim.Native.Nat.{min};
-ghost use Rattle.bimatrix.specs.Squares.{inOrder, swapRows, swapColumns, both};
+ghost use Rattle.bimatrix.specs.Matrices.{inOrder, swapRows, swapColumns, both};
 ghost use Rattle.bimatrix.specs.Keys.{different, strictlyRanked, base4, key, leastKey};
 
-// A number at each of the four profiles of a 2 x 2 table: at01 is that of row 0, player 0's strategy, and column 1, player 1's.
-pub struct Square {
+// One player's numbers at the four profiles: at01 is that of row 0, player 0's strategy, and column 1, player 1's.
+pub struct Matrix {
     pub at00: u8,
     pub at01: u8,
     pub at10: u8,
     pub at11: u8,
 }
 
-impl Square {
+impl Matrix {
     // The rows swapped.
-    fn swap_rows(self) -> Square
+    fn swap_rows(self) -> Matrix
         ensures { λ r. ⌜ r ≡ swapRows self ⌝ }
     {
-        Square {
+        Matrix {
             at00: self.at10,
             at01: self.at11,
             at10: self.at00,
@@ -27,10 +27,10 @@ impl Square {
     }
 
     // The columns swapped.
-    fn swap_columns(self) -> Square
+    fn swap_columns(self) -> Matrix
         ensures { λ r. ⌜ r ≡ swapColumns self ⌝ }
     {
-        Square {
+        Matrix {
             at00: self.at01,
             at01: self.at00,
             at10: self.at11,
@@ -60,10 +60,10 @@ impl Square {
     }
 }
 
-// A number for each player at each profile: player 0's, and player 1's.
+// The matrices of both players: player 0's, and player 1's.
 pub struct Bimatrix {
-    pub first: Square,
-    pub second: Square,
+    pub first: Matrix,
+    pub second: Matrix,
 }
 
 // The lower of two numbers.

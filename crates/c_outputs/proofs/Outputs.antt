@@ -32,6 +32,13 @@ pub number-into : (t u : Told (Option ℕ)) (n : ℕ) (l l₀ : Bool) (k k₀ : 
     → (n ≡ status u) × ((l ≡ output (toldOf isSome u) l₀) × (k ≡ output (toldOf orZero u) k₀))
 number-into t u n l l₀ k k₀ e h = rw e at h
 
+-- the two outputs tell which number it is, or that there is none
+pub number-back : (o p : Option ℕ) → isSome o ≡ isSome p → orZero o ≡ orZero p → o ≡ p
+number-back none none h k = refl
+number-back none (some n) h k = let z : _≡_ {A = ℕ} 0 1 = cc in absurd (omega arith)
+number-back (some m) none h k = let z : _≡_ {A = ℕ} 0 1 = cc in absurd (omega arith)
+number-back (some m) (some n) h k = ap {B = Option ℕ} some k
+
 -- what the outputs hold where values v were told, and where a refusal was
 pub told-ok : {A : Type 0} (t : Told A) (v : A) → values v ≡ t
     → (0 ≡ status t) × ((old : A) → v ≡ output t old) × ((B : Type 0) (w old : B) → w ≡ beside t w old)

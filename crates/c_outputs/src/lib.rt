@@ -71,9 +71,9 @@ pub fn number_into(answer: NumberResult, listed: &mut bool, number: &mut usize) 
     match answer {
         NumberResult::Ok(told) => {
             match told {
-                UsizeOption::Some(n) => {
+                UsizeOption::Some(place) => {
                     *listed = true;
-                    *number = n;
+                    *number = place;
                 }
                 UsizeOption::None => {
                     *listed = false;

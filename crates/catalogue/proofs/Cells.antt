@@ -1,5 +1,5 @@
--- A table's number by its cells: those of the four profiles stand one profile after the other, so the ranks that the walk finds are the
--- game's. Assumes nothing.
+-- A table's number by its cells: they stand one profile after the other, so the ranks of a player's cells are those of the game. Assumes
+-- nothing.
 use mathlib.Core.Path.{_≡_, refl, ap, sym, _∙_}
 use mathlib.Core.Bool.{Bool, false, cond, _&&_}
 use mathlib.Core.List.{List, [], _∷_}
@@ -13,10 +13,10 @@ use Rattle.game.proofs.Finite.{and-T, eqb-T}
 use Rattle.table.specs.Table.{offset, payoffAt, cellRank, tableGame}
 use Rattle.table.specs.Meaning.{Finites, Table}
 use Rattle.bimatrix.specs.declared.Bimatrix.{Bimatrix}
-use Rattle.bimatrix.specs.Squares.{bimatrix}
+use Rattle.bimatrix.specs.Matrices.{bimatrixOf, bimatrix}
 use Rattle.bimatrix.specs.Keys.{ranked, ranks, strictlyRanked, leastKey}
 use Rattle.catalogue.specs.Catalogue.{place}
-use Rattle.catalogue.specs.Answers.{twoByTwo, gameNumber, cellSquare}
+use Rattle.catalogue.specs.Answers.{twoByTwo, gameNumber, cellMatrix}
 use Rattle.bimatrix.proofs.Ranks.{strict-ranks}
 
 -- two players, 2 strategies each
@@ -30,10 +30,10 @@ pair-law (a ∷ b ∷ c ∷ cs) h =
     absurd (omega (arith, eqb-T n 2 .0 (and-T (eqb n 2) (eqb a 2) .0 (and-T (eqb n 2 && eqb a 2) (eqb b 2) .0 h .0) .0)))
 
 -- each player's ranks, from its cells
-abbrev pub cellRanks : List Float → Bimatrix
-cellRanks payoffs = record { first = ranked (cellSquare payoffs 0); second = ranked (cellSquare payoffs 1) }
+abbrev pub foundRanks : List Float → Bimatrix
+foundRanks payoffs = bimatrixOf (ranked (cellMatrix payoffs 0)) (ranked (cellMatrix payoffs 1))
 
-cells-pay : (payoffs : List Float) → ranks (bimatrix (tableGame (2 ∷ 2 ∷ []) payoffs)) ≡ cellRanks payoffs
+cells-pay : (payoffs : List Float) → ranks (bimatrix (tableGame (2 ∷ 2 ∷ []) payoffs)) ≡ foundRanks payoffs
 unfolding tableGame payoffAt offset cellRank
 cells-pay payoffs = refl
 
@@ -44,7 +44,7 @@ module _ (ks counts : List ℕ) (payoffs : List Float) where
 
   -- of two players with 2 strategies each
   literal : gameNumber ks (tableGame (2 ∷ 2 ∷ []) payoffs)
-      ≡ cond (strictlyRanked (cellRanks payoffs)) (place ks (leastKey (cellRanks payoffs))) none
+      ≡ cond (strictlyRanked (foundRanks payoffs)) (place ks (leastKey (foundRanks payoffs))) none
   unfolding gameNumber tableGame twoByTwo
   literal =
       let b = bimatrix (tableGame (2 ∷ 2 ∷ []) payoffs) in
@@ -53,9 +53,9 @@ module _ (ks counts : List ℕ) (payoffs : List Float) where
 
   pub pair-number : counts ≡ 2 ∷ 2 ∷ []
       → gameNumber ks (tableGame counts payoffs)
-      ≡ cond (strictlyRanked (cellRanks payoffs)) (place ks (leastKey (cellRanks payoffs))) none
+      ≡ cond (strictlyRanked (foundRanks payoffs)) (place ks (leastKey (foundRanks payoffs))) none
   pair-number e = ap (λ (cs : List ℕ). gameNumber ks (tableGame cs payoffs)) e ∙ literal
 
--- what the walk asks of the payoffs
+-- what the code asks of the payoffs
 pub eight : (counts : List ℕ) (payoffs : List Float) → Table counts payoffs → counts ≡ 2 ∷ 2 ∷ [] → (length payoffs ≡ 8) × Finites payoffs
 eight counts payoffs t e = (rw e at (t .full), t .finites)

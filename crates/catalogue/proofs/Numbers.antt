@@ -1,8 +1,6 @@
--- What numbers mean, of games and lists of keys, and of tables and the catalogue: a strictly ranked table has a number, at which its
--- least key stands (`numbered`), any other accepted table none (`not-numbered`), and two strictly ranked ones have one number exactly
--- where swapping rows, columns, both or neither turns the ranks of one into those of the other (`same-number`). Ranks are by the order
--- key (`digit-law`, `strict-law`). Assumes nothing.
-use mathlib.Core.Path.{_≡_, refl, sym, ap, subst, _∙_}
+-- What numbers mean: which tables have one (`numbered`, `not-numbered`), and which have the same (`same-number`, and `same-game-number` in
+-- any list that has every least key). Ranks are by the order key (`digit-law`, `strict-law`, `zeros-tie`). Assumes nothing.
+use mathlib.Core.Path.{_≡_, refl, sym, ap, ap₂, subst, _∙_}
 use mathlib.Core.Bool.{Bool, true, false, cond, not, _&&_}
 use mathlib.Core.List.{List, [], _∷_, map, List·Memᴰ·head as here, List·Memᴰ·tail as there, List·Memᴰ·not-nil as not-in-nil, List·Memᴰ·cases-cons as in-cons, Memᴰ·map as to-map, Memᴰ·of-map as of-map}
 use mathlib.Core.Logic.{_↔_, _≢_, ⊎-elim}
@@ -11,37 +9,40 @@ use Prim.Native.Nat.{ℕ, zero, suc, _<_}
 use native.Mathlib.Omega.{arith}
 use lib.Dec.{T, eqb, ltb}
 use lib.ListN.{length, getD}
-use lib.Ieee.{Float, binary64, fits}
-use lib.IntN.{ℤ}
+use lib.Ieee.{Float, fin, binary64, fits}
+use lib.IntN.{ℤ, pos}
 use lib.Signed.{ltZ}
 use Rattle.game.specs.Finite.{_∈_, all, filter, Sorted}
 use Rattle.game.specs.Game.{Game, Profile, profiles}
 use Rattle.game.proofs.Finite.{and-T, no-T, eqb-T, all-T, filter-cong, test-true, test-false}
 use Rattle.game.proofs.Game.{profiles-law, profiles-once}
-use Rattle.refusal.specs.Refusal.{Refusal}
-use Rattle.refusal.specs.Told.{values, unless}
+use Rattle.refusal.specs.Refusal.{Refusal, numberOf}
+use Rattle.refusal.specs.Told.{values, unless, optionUsize}
+use Rattle.refusal.specs.declared.UsizeOption.{UsizeOption}
+use Rattle.refusal.specs.declared.UsizeOption.the-variants.{None, Some}
+use Rattle.refusal.proofs.Refusal.{number-once}
+use Rattle.refusal.proofs.Told.{apart}
 use Rattle.utility.specs.Order.{key as orderKey, rank}
+use Rattle.utility.proofs.Laws.{zero-key}
 use Rattle.utility.proofs.Rank.{rank-lt, rank-eq}
 use Rattle.table.specs.Table.{cell, payoffAt, tableGame}
 use Rattle.table.specs.Checks.{tableRefusal}
 use Rattle.table.specs.Meaning.{Doubles}
 use Rattle.bimatrix.specs.declared.Bimatrix.{Bimatrix}
-use Rattle.bimatrix.specs.Squares.{squareOf, inOrder, bimatrix}
-use Rattle.bimatrix.specs.Keys.{rankAmong, ranks, different, strictlyRanked, leastKey}
+use Rattle.bimatrix.specs.Matrices.{matrixOf, inOrder, bimatrixOf, bimatrix}
+use Rattle.bimatrix.specs.Keys.{rankAmong, ranked, ranks, different, strictlyRanked, leastKey}
+use Rattle.catalogue.specs.declared.NumberResult.{NumberResult}
+use Rattle.catalogue.specs.declared.NumberResult.the-variants.{Ok, Err}
 use Rattle.catalogue.specs.Catalogue.{place, catalogue}
 use Rattle.bimatrix.specs.Meaning.{Swapped}
-use Rattle.catalogue.specs.Meaning.{LeastKey, DifferentKeys, StrictlyRanked}
-use Rattle.catalogue.specs.Answers.{twoByTwo, gameNumber, numberAnswer}
+use Rattle.catalogue.specs.Meaning.{LeastKey, Strict, keyRank, DifferentKeys, StrictlyRanked}
+use Rattle.catalogue.specs.Answers.{twoByTwo, gameNumber, numberAnswer, toldNumber}
 use Rattle.catalogue.proofs.Cells.{pair-law}
 use Rattle.bimatrix.proofs.Swaps.{order-law}
 use Rattle.catalogue.proofs.Rule.{catalogue-rule, least-swapped, catalogue-length}
 use Rattle.catalogue.proofs.Places.{placed, same-place}
 
 -- ---- games, in a list of keys
-
--- a strictly ranked 2 × 2 game
-abbrev pub Strict : Game → Type 0
-Strict g = T (twoByTwo (g .counts)) × T (strictlyRanked (bimatrix g))
 
 least-is : (g : Game) → Strict g → LeastKey (leastKey (ranks (bimatrix g)))
 least-is g s = (bimatrix g, s .1, refl)
@@ -67,7 +68,7 @@ same-game-number ks full g h s t =
 
 -- ---- order keys
 
--- the numbers at the elements of a list that has each once are different exactly where those of any two elements are
+-- of a list that has each element once: no two of the numbers f x are equal exactly where f differs at any two elements
 different-map : (f : List ℕ → ℕ) (xs : List (List ℕ)) → Sorted (λ x y. x ≢ y) xs
     → T (different (map f xs)) ↔ ((x y : List ℕ) → x ∈ xs → y ∈ xs → x ≢ y → f x ≢ f y)
 unfolding different
@@ -108,7 +109,7 @@ module _ (payoffs : List Float) (d : Doubles payoffs) where
   abbrev pair : List ℕ
   pair = 2 ∷ 2 ∷ []
 
-  -- the order key of player p's payoff at x, and the game's number for it
+  -- the order key of player p's payoff at x, and the same plus 2^63
   abbrev keyAt : ℕ → List ℕ → ℤ
   keyAt p x = orderKey (payoffAt pair payoffs p x)
 
@@ -119,23 +120,33 @@ module _ (payoffs : List Float) (d : Doubles payoffs) where
   unfolding payoffAt
   fits-at p x = d (cell pair x p)
 
-  -- a digit: at how many of the four profiles the player's payoff has a lesser order key
-  pub digit-law : (p : ℕ) (x : List ℕ)
-      → rankAmong (inOrder (squareOf (tableGame pair payoffs .pay p))) (tableGame pair payoffs .pay p x)
-      ≡ length (filter (λ y. ltZ (keyAt p y) (keyAt p x)) (profiles pair))
-  unfolding tableGame rankAmong
-  digit-law p x =
+  rank-by-key : (p : ℕ) (x : List ℕ) → rankAmong (inOrder (matrixOf (payAt p))) (payAt p x) ≡ keyRank payoffs p x
+  unfolding rankAmong
+  rank-by-key p x =
       ap (λ (xs : List ℕ). length (filter (λ y. ltb y (payAt p x)) xs)) (order-law (payAt p))
       ∙ passed-map (payAt p) (λ y. ltb y (payAt p x)) (profiles pair)
       ∙ ap length
       (filter-cong (λ y. ltb (payAt p y) (payAt p x)) (λ y. ltZ (keyAt p y) (keyAt p x)) (profiles pair)
       (λ y h. sym (rank-lt (payoffAt pair payoffs p y) (payoffAt pair payoffs p x) (fits-at p y) (fits-at p x))))
 
+  matrix-by-key : (p : ℕ) → ranked (matrixOf (payAt p)) ≡ matrixOf (keyRank payoffs p)
+  matrix-by-key p =
+      let a = rank-by-key p (0 ∷ 0 ∷ []) in
+      let b = rank-by-key p (0 ∷ 1 ∷ []) in
+      let c = rank-by-key p (1 ∷ 0 ∷ []) in
+      let d = rank-by-key p (1 ∷ 1 ∷ []) in
+      λ i. record { at00 = a i; at01 = b i; at10 = c i; at11 = d i }
+
+  -- the digits of a table: at each profile, at how many the player's payoff has a lesser order key
+  pub digit-law : ranks (bimatrix (tableGame pair payoffs)) ≡ bimatrixOf (matrixOf (keyRank payoffs 0)) (matrixOf (keyRank payoffs 1))
+  unfolding tableGame
+  digit-law = ap₂ bimatrixOf (matrix-by-key 0) (matrix-by-key 1)
+
   -- a player's payoffs have different order keys
   Apart : ℕ → Type 0
   Apart p = (x y : List ℕ) → Profile pair x → Profile pair y → x ≢ y → keyAt p x ≢ keyAt p y
 
-  apart-law : (p : ℕ) → T (different (inOrder (squareOf (payAt p)))) ↔ Apart p
+  apart-law : (p : ℕ) → T (different (inOrder (matrixOf (payAt p)))) ↔ Apart p
   unfolding Apart
   apart-law p =
       let (to, from) = different-map (payAt p) (profiles pair) (profiles-once pair) in
@@ -151,7 +162,7 @@ module _ (payoffs : List Float) (d : Doubles payoffs) where
   keys-law : T (strictlyRanked (bimatrix (tableGame pair payoffs))) ↔ DifferentKeys pair payoffs
   unfolding strictlyRanked tableGame Apart
   keys-law =
-      let (to, from) = and-T (different (inOrder (squareOf (payAt 0)))) (different (inOrder (squareOf (payAt 1)))) in (
+      let (to, from) = and-T (different (inOrder (matrixOf (payAt 0)))) (different (inOrder (matrixOf (payAt 1)))) in (
         λ t. each (apart-law 0 .0 (to t .0)) (apart-law 1 .0 (to t .1)),
         λ h. from (
           apart-law 0 .1 (λ x y. h 0 x y (omega arith)),
@@ -191,7 +202,13 @@ strict-law counts payoffs d = (
       ),
 )
 
-module _ (counts : List ℕ) (payoffs : List Float) (d : Doubles payoffs) where
+-- both zeros are one value: a player that is paid each of them somewhere has a tie
+pub zeros-tie : (counts : List ℕ) (payoffs : List Float) (p : ℕ) (x y : List ℕ) (s t : Bool) → p < 2 → Profile counts x → Profile counts y → x ≢ y
+    → payoffAt counts payoffs p x ≡ fin s 0 (pos 0) → payoffAt counts payoffs p y ≡ fin t 0 (pos 0) → StrictlyRanked counts payoffs → ⊥
+zeros-tie counts payoffs p x y s t l h k n a b r =
+    r .different-keys p x y l h k n (ap orderKey a ∙ zero-key s ∙ sym (zero-key t) ∙ sym (ap orderKey b))
+
+module _ (counts : List ℕ) (payoffs : List Float) where
   abbrev tableRanks : Bimatrix
   tableRanks = ranks (bimatrix (tableGame counts payoffs))
 
@@ -200,20 +217,20 @@ module _ (counts : List ℕ) (payoffs : List Float) (d : Doubles payoffs) where
   answer-is a = ap (λ (r : Refusal). unless r (gameNumber catalogue (tableGame counts payoffs))) a
 
   -- a strictly ranked table has a number below 144, at which its least key stands
-  pub numbered : StrictlyRanked counts payoffs
+  pub numbered : Doubles payoffs → StrictlyRanked counts payoffs
       → (n : ℕ) × (numberAnswer counts payoffs ≡ values (some n)) × (n < 144) × (getD catalogue n 0 ≡ leastKey tableRanks)
-  numbered r =
+  numbered d r =
       let (a, s) = strict-law counts payoffs d .1 r in
       let g = tableGame counts payoffs in
       let (n, e, t) = placed catalogue (leastKey tableRanks) (catalogue-rule .members (leastKey tableRanks) .1 (least-is g s)) in
       (n, answer-is a ∙ ap values (number-is catalogue g s ∙ e), omega (arith, t .0, catalogue-length), t .1)
 
   -- any other accepted table has none
-  pub not-numbered : tableRefusal counts payoffs ≡ none → (StrictlyRanked counts payoffs → ⊥) → numberAnswer counts payoffs ≡ values none
-  not-numbered a n =
+  pub not-numbered : Doubles payoffs → tableRefusal counts payoffs ≡ none → (StrictlyRanked counts payoffs → ⊥) → numberAnswer counts payoffs ≡ values none
+  not-numbered d a n =
       answer-is a ∙ ap values (no-number catalogue (tableGame counts payoffs) (λ s. n (strict-law counts payoffs d .0 (a, s))))
 
--- two strictly ranked tables have one number exactly where swapping rows, columns, both or neither turns the ranks of one into the
+-- two strictly ranked tables have the same number exactly where swapping rows, columns, both or neither turns the ranks of one into the
 -- other's
 pub same-number : (counts : List ℕ) (payoffs : List Float) → Doubles payoffs → StrictlyRanked counts payoffs
     → (counts′ : List ℕ) (payoffs′ : List Float) → Doubles payoffs′ → StrictlyRanked counts′ payoffs′
@@ -225,4 +242,18 @@ same-number counts payoffs d r counts′ payoffs′ d′ r′ =
     let (to, from) =
     same-game-number catalogue (λ k. catalogue-rule .members k .1) (tableGame counts payoffs) (tableGame counts′ payoffs′) s s′
     in
-    rw (answer-is counts payoffs d a, answer-is counts′ payoffs′ d′ a′) (λ e. to (cc), λ m. ap values (from m))
+    rw (answer-is counts payoffs a, answer-is counts′ payoffs′ a′) (λ e. to (cc), λ m. ap values (from m))
+
+-- ---- what was told determines the answer
+
+option-once : (a b : UsizeOption) → optionUsize a ≡ optionUsize b → a ≡ b
+option-once None None h = refl
+option-once None (Some n) h = let z : _≡_ {A = ℕ} 0 1 = cc in absurd (omega arith)
+option-once (Some m) None h = let z : _≡_ {A = ℕ} 0 1 = cc in absurd (omega arith)
+option-once (Some m) (Some n) h = ap Some (cc)
+
+pub told-number-once : (r s : NumberResult) → toldNumber r ≡ toldNumber s → r ≡ s
+told-number-once (Ok a) (Ok b) h = ap Ok (option-once a b (cc))
+told-number-once (Ok a) (Err e) h = absurd (apart (optionUsize a) (numberOf e) h)
+told-number-once (Err d) (Ok b) h = absurd (apart (optionUsize b) (numberOf d) (sym h))
+told-number-once (Err d) (Err e) h = ap Err (number-once d e (cc))

@@ -1,5 +1,5 @@
--- The place of a key is the first at which it stands (`place-law`), so two keys of a list have one place exactly where they are one key
--- (`same-place`). Assumes nothing.
+-- The place of a key is the first at which it stands (`place-law`), so two keys of a list have the same place exactly where they are the
+-- same (`same-place`). Assumes nothing.
 use mathlib.Core.Path.{_≡_, refl, sym, ap, _∙_}
 use mathlib.Core.Bool.{Bool}
 use mathlib.Core.List.{List, [], _∷_, List·Memᴰ·not-nil as not-in-nil, List·Memᴰ·cases-cons as in-cons}
@@ -13,10 +13,7 @@ use Rattle.game.specs.Finite.{_∈_, below, filter, First}
 use Rattle.game.proofs.Finite.{eqb-T}
 use Rattle.game.proofs.Sorted.{lists-iff, lists-filter, first-law, less-asym, below-law}
 use Rattle.catalogue.specs.Catalogue.{place}
-
--- k stands at n
-abbrev pub Stands : List ℕ → ℕ → ℕ → Type 0
-Stands ks k n = (n < length ks) × (getD ks n 0 ≡ k)
+use Rattle.catalogue.specs.Meaning.{Stands}
 
 -- the first place at which k stands
 pub place-law : (ks : List ℕ) (k : ℕ) → First _<_ (Stands ks k) (place ks k)
@@ -42,7 +39,7 @@ placed ks k h = go (place ks k) refl (place-law ks k)
     go none e l = let (n, s) = stands ks k h in absurd (l n s)
     go (some n) e l = (n, e, l .0)
 
--- two keys have one place exactly where they are the same
+-- two keys have the same place exactly where they are the same
 pub same-place : (ks : List ℕ) (j k : ℕ) → j ∈ ks → k ∈ ks → (place ks j ≡ place ks k) ↔ (j ≡ k)
 same-place ks j k h l =
     let (m, d, s) = placed ks j h in

@@ -11,10 +11,10 @@ use Rattle.refusal.specs.Refusal.{numberOf}
 use Rattle.refusal.specs.Told.{Told, values, refused, unless, optionUsize}
 use Rattle.table.specs.Table.{cellRank, tableGame}
 use Rattle.table.specs.Checks.{tableRefusal}
-use Rattle.bimatrix.specs.declared.Square.{Square}
+use Rattle.bimatrix.specs.declared.Matrix.{Matrix}
 use Rattle.catalogue.specs.declared.NumberResult.{NumberResult}
 use Rattle.catalogue.specs.declared.NumberResult.the-variants.{Ok, Err}
-use Rattle.bimatrix.specs.Squares.{bimatrix}
+use Rattle.bimatrix.specs.Matrices.{bimatrix}
 use Rattle.bimatrix.specs.Keys.{ranks, strictlyRanked, leastKey}
 use Rattle.catalogue.specs.Catalogue.{place, catalogue}
 
@@ -26,7 +26,7 @@ twoByTwo counts = eqb (length counts) 2 && eqb (getD counts 0 0) 2 && eqb (getD 
 unfoldable pub gameNumber : List ℕ → Game → Option ℕ
 gameNumber ks g = cond (twoByTwo (g .counts) && strictlyRanked (bimatrix g)) (place ks (leastKey (ranks (bimatrix g)))) none
 
--- the number in the catalogue of the game that a table is, or 1 to 7
+-- the number in the catalogue of the game that a table is, or a refusal of 1 to 7
 unfoldable pub numberAnswer : List ℕ → List Float → Told (Option ℕ)
 numberAnswer counts payoffs = unless (tableRefusal counts payoffs) (gameNumber catalogue (tableGame counts payoffs))
 
@@ -35,11 +35,11 @@ abbrev pub toldNumber : NumberResult → Told (Option ℕ)
 toldNumber (Ok n) = values (optionUsize n)
 toldNumber (Err e) = refused (numberOf e)
 
--- ---- for the walk
+-- ---- for the code
 
--- the ranks of player p's cells, at the four profiles
-abbrev pub cellSquare : List Float → ℕ → Square
-cellSquare payoffs p =
+-- player p's cells at the four profiles, each by its order key plus 2^63
+abbrev pub cellMatrix : List Float → ℕ → Matrix
+cellMatrix payoffs p =
     record {
       at00 = cellRank payoffs p;
       at01 = cellRank payoffs (2 + p);

@@ -1,7 +1,7 @@
-// The catalogue of document 01: the strictly ranked 2 x 2 tables, each with a number. Two tables have one number exactly where swapping
-// rows, columns, both or neither turns the ranks of one into those of the other.
+// The catalogue of document 01: a number for each strictly ranked 2 x 2 table. Two tables have the same number exactly where swapping rows,
+// columns, both or neither turns the ranks of one into those of the other.
 use bimatrix::Bimatrix;
-use bimatrix::Square;
+use bimatrix::Matrix;
 use refusal::NormalFormError;
 use refusal::UsizeOption;
 use refusal::UsizeResult;
@@ -11,10 +11,10 @@ ghost use lib.ListN.{length};
 ghost use Rattle.refusal.specs.Told.{optionUsize};
 ghost use Rattle.table.specs.Table.{cellRank, tableGame};
 ghost use Rattle.table.specs.Meaning.{Finites, Table};
-ghost use Rattle.bimatrix.specs.Squares.{inOrder};
+ghost use Rattle.bimatrix.specs.Matrices.{inOrder};
 ghost use Rattle.bimatrix.specs.Keys.{oneIfLess, rankAmong, ranked};
 ghost use Rattle.catalogue.specs.Catalogue.{place, catalogue};
-ghost use Rattle.catalogue.specs.Answers.{cellSquare, twoByTwo, gameNumber, toldNumber, numberAnswer};
+ghost use Rattle.catalogue.specs.Answers.{cellMatrix, twoByTwo, gameNumber, toldNumber, numberAnswer};
 
 // Rust's `Result<Option<usize>, NormalFormError>`: a number of the catalogue or none, or the refusal.
 pub enum NumberResult {
@@ -23,7 +23,7 @@ pub enum NumberResult {
 }
 
 // How many keys there are.
-const KEYS: usize = 144;
+pub const KEYS: usize = 144;
 
 // The least keys of all strictly ranked tables, ascending.
 const CATALOGUE: [u16; KEYS] = [
@@ -173,6 +173,13 @@ const CATALOGUE: [u16; KEYS] = [
     14820,
 ];
 
+// The keys of the catalogue.
+pub fn keys() -> [u16; KEYS]
+    ensures { λ r. ⌜ r ≡ catalogue ⌝ }
+{
+    CATALOGUE
+}
+
 // ---- the ranks of payoffs
 
 // 1 where the payoff of one cell is less than that of the other, else 0.
@@ -188,7 +195,7 @@ fn less(payoffs: &[f64], cell: usize, other: usize) -> u8
 fn rank(payoffs: &[f64], player: usize, cell: usize) -> u8
     requires { ⌜ (length (now payoffs) ≡ 8) × (player < 2) × (cell < 8) ⌝ }
     requires { ⌜ Finites (now payoffs) ⌝ }
-    ensures { λ r. ⌜ r ≡ rankAmong (inOrder (cellSquare (now (payoffs .entry)) player)) (cellRank (now (payoffs .entry)) cell) ⌝ }
+    ensures { λ r. ⌜ r ≡ rankAmong (inOrder (cellMatrix (now (payoffs .entry)) player)) (cellRank (now (payoffs .entry)) cell) ⌝ }
 {
     less(payoffs, player, cell)
         + less(payoffs, 2 + player, cell)
@@ -197,12 +204,12 @@ fn rank(payoffs: &[f64], player: usize, cell: usize) -> u8
 }
 
 // A player's ranks at the four profiles.
-fn player_ranks(payoffs: &[f64], player: usize) -> Square
+fn player_ranks(payoffs: &[f64], player: usize) -> Matrix
     requires { ⌜ (length (now payoffs) ≡ 8) × (player < 2) ⌝ }
     requires { ⌜ Finites (now payoffs) ⌝ }
-    ensures { λ r. ⌜ r ≡ ranked (cellSquare (now (payoffs .entry)) player) ⌝ }
+    ensures { λ r. ⌜ r ≡ ranked (cellMatrix (now (payoffs .entry)) player) ⌝ }
 {
-    Square {
+    Matrix {
         at00: rank(payoffs, player, player),
         at01: rank(payoffs, player, 2 + player),
         at10: rank(payoffs, player, 4 + player),
@@ -224,13 +231,6 @@ fn place(keys: &[u16], key: usize) -> UsizeOption
         i += 1;
     }
     UsizeOption::None
-}
-
-// The place of a key in the catalogue, or none.
-fn catalogue_place(key: usize) -> UsizeOption
-    ensures { λ r. ⌜ optionUsize r ≡ place catalogue key ⌝ }
-{
-    place(&CATALOGUE, key)
 }
 
 // Whether there are two players with two strategies each.
@@ -255,7 +255,8 @@ fn table_number(counts: &[usize], payoffs: &[f64]) -> UsizeOption
             second: player_ranks(payoffs, 1),
         };
         if ranks.strictly_ranked() {
-            catalogue_place(ranks.least_key())
+            let keys = keys();
+            place(&keys, ranks.least_key())
         } else {
             UsizeOption::None
         }

@@ -1,6 +1,6 @@
 // The catalogue's numbers. First those of all 65,536 tables of two players with 2 strategies each whose payoffs are 0, 1, 2 or 3: the eight
-// base-4 digits of a number are such a table, player 0's payoffs at the four profiles in order and then player 1's, so that of a strictly
-// ranked table the number is the key. A line for each number of the catalogue: how often it came, and the keys of the first four tables.
+// base-4 digits of k, from 0 to 65,535, are such a table, player 0's payoffs at the four profiles in order and then player 1's, so that k is
+// the key of a strictly ranked one. A line for each number of the catalogue: how often it came, and the keys of the first four tables.
 // 576 tables are strictly ranked, so each comes four times; the others have ties, and how many had no number is the next line. Then single
 // tables, one line each: a short name, and what `number` told.
 use cases::LARGEST;
@@ -10,6 +10,7 @@ use cases::first;
 use cases::number;
 use cases::refused;
 use cases::text;
+use catalogue::KEYS;
 use catalogue::NumberResult;
 use refusal::UsizeOption;
 use table::MAX_CELLS;
@@ -20,9 +21,7 @@ ghost use Prim.Native.Nat.{_+_, _<_};
 // How many tables of eight digits there are.
 const TABLES: usize = 65536;
 
-// How many numbers the catalogue has, and how many tables of each are told by their keys.
-const NUMBERS: usize = 144;
-
+// How many tables of each number are told by their keys.
 const EACH: usize = 4;
 
 // The most payoffs that a case hands in: one more than the largest table has.
@@ -58,8 +57,8 @@ fn table_of(k: usize) -> [f64; 8] {
 }
 
 // Counts that the table of k has the number n, and keeps k where n came fewer than four times before.
-fn note(came: &mut [usize; NUMBERS], keys: &mut [usize; NUMBERS * EACH], n: usize, k: usize) {
-    if n < NUMBERS {
+fn note(came: &mut [usize; KEYS], keys: &mut [usize; KEYS * EACH], n: usize, k: usize) {
+    if n < KEYS {
         let times = came[n];
         if times < EACH {
             keys[n * EACH + times] = k;
@@ -69,7 +68,7 @@ fn note(came: &mut [usize; NUMBERS], keys: &mut [usize; NUMBERS * EACH], n: usiz
 }
 
 // Every table's number into the counts; how many had none.
-fn survey(came: &mut [usize; NUMBERS], keys: &mut [usize; NUMBERS * EACH]) -> usize {
+fn survey(came: &mut [usize; KEYS], keys: &mut [usize; KEYS * EACH]) -> usize {
     let mut without = 0;
     let mut k = 0;
     while k < TABLES {
@@ -86,7 +85,7 @@ fn survey(came: &mut [usize; NUMBERS], keys: &mut [usize; NUMBERS * EACH]) -> us
 }
 
 // The line of a number, with the four keys from `start` on.
-fn line(n: usize, times: usize, keys: &[usize; NUMBERS * EACH], start: usize)
+fn line(n: usize, times: usize, keys: &[usize; KEYS * EACH], start: usize)
     requires { ⌜ start + 3 < 576 ⌝ }
 {
     text(b"number");
@@ -101,9 +100,9 @@ fn line(n: usize, times: usize, keys: &[usize; NUMBERS * EACH], start: usize)
     text(b"\n");
 }
 
-fn lines(came: &[usize; NUMBERS], keys: &[usize; NUMBERS * EACH]) {
+fn lines(came: &[usize; KEYS], keys: &[usize; KEYS * EACH]) {
     let mut n = 0;
-    while n < NUMBERS {
+    while n < KEYS {
         line(n, came[n], keys, n * EACH);
         n += 1;
     }
@@ -258,8 +257,8 @@ fn refusals(payoffs: &[f64]) {
 }
 
 fn main() {
-    let mut came = [0; NUMBERS];
-    let mut keys = [0; NUMBERS * EACH];
+    let mut came = [0; KEYS];
+    let mut keys = [0; KEYS * EACH];
     let without = survey(&mut came, &mut keys);
     lines(&came, &keys);
     text(b"none: came");

@@ -398,7 +398,7 @@ pub extern "C" fn sigvanyor_write(
     c_outputs::usize_into(answer, number)
 }
 
-// `number`: whether the table is in the catalogue into `listed`, and its number, 0 where it is not, into `number`, or 1 to 7.
+// `number`: whether the table has a catalogue number into `listed`, and the number, 0 where it has none, into `number`, or 1 to 7.
 #[no_mangle]
 pub extern "C" fn sigvanyor_number(
     counts: &[usize],

@@ -23,7 +23,7 @@ use Rattle.pure_nash.specs.Answers.{listingAnswer, listedChoices, equilibriaAns
 use Rattle.survivors.specs.declared.Survivors.{Survivors}
 use Rattle.survivors.specs.Survivors.{withoutMark, allMarks, freshOf, markedFrom, foreign}
 use Rattle.survivors.specs.Answers.{strikeAnswer, strikeLeaves}
-use Rattle.bimatrix.specs.Squares.{bimatrix}
+use Rattle.bimatrix.specs.Matrices.{bimatrix}
 use Rattle.bimatrix.specs.Keys.{rankAmong, ranks, different, strictlyRanked, key, leastKey}
 use Rattle.catalogue.specs.Catalogue.{orders, rankings, catalogue, place}
 use Rattle.catalogue.specs.Answers.{twoByTwo, gameNumber, numberAnswer}

@@ -5,7 +5,8 @@ use native.Mathlib.Omega.{arith}
 use borrow.Author.Count.{below-more}
 use lib.ListN.{length, getD}
 use Rattle.game.proofs.Sorted.{lowest-none, lowest-some}
-use Rattle.catalogue.proofs.Places.{Stands, place-law}
+use Rattle.catalogue.specs.Meaning.{Stands}
+use Rattle.catalogue.proofs.Places.{place-law}
 use Rattle.catalogue.proofs.place.Statement.{statement}
 use Rattle.catalogue.proofs.place.Tie as tie
 

@@ -11,12 +11,12 @@ use lib.ListN.{length}
 use lib.Ieee.{Float}
 use Rattle.table.specs.Table.{tableGame}
 use Rattle.table.specs.Meaning.{Finites}
-use Rattle.bimatrix.specs.declared.Square.{Square}
 use Rattle.bimatrix.specs.declared.Bimatrix.{Bimatrix}
+use Rattle.bimatrix.specs.Matrices.{bimatrixOf}
 use Rattle.bimatrix.specs.Keys.{strictlyRanked, leastKey}
 use Rattle.catalogue.specs.Catalogue.{place, catalogue}
 use Rattle.catalogue.specs.Answers.{gameNumber}
-use Rattle.catalogue.proofs.Cells.{pair-law, cellRanks, other-number, pair-number, eight}
+use Rattle.catalogue.proofs.Cells.{pair-law, foundRanks, other-number, pair-number, eight}
 use Rattle.catalogue.proofs.table_number.Statement.{statement}
 use Rattle.catalogue.proofs.table_number.Tie as tie
 
@@ -40,18 +40,18 @@ module _ (c : tie.After-strictly-ranked) where
   first = c .before .before .before
 
   abbrev found : Bimatrix
-  found = record { first = c .before .before .player-ranks .result; second = c .before .player-ranks2 .result }
+  found = bimatrixOf (c .before .before .player-ranks .result) (c .before .player-ranks2 .result)
 
-  right : found ≡ cellRanks (payoffs first)
-  right =
-      ap₂ (λ (a b : Square). let r : Bimatrix = record { first = a; second = b } in r) (c .before .before .player-ranks .ensures)
+  found-is : found ≡ foundRanks (payoffs first)
+  found-is =
+      ap₂ bimatrixOf (c .before .before .player-ranks .ensures)
       (c .before .player-ranks2 .ensures)
 
   told : (b : Bool) → c .strictly-ranked .result ≡ b
       → gameNumber catalogue (tableGame (counts first) (payoffs first)) ≡ cond b (place catalogue (leastKey found)) none
   told b e =
       pair-number catalogue (counts first) (payoffs first) (pair first)
-      ∙ sym (ap (λ (r : Bimatrix). cond (strictlyRanked r) (place catalogue (leastKey r)) none) right)
+      ∙ sym (ap (λ (r : Bimatrix). cond (strictlyRanked r) (place catalogue (leastKey r)) none) found-is)
       ∙ ap (λ (t : Bool). cond t (place catalogue (leastKey found)) none) (sym (c .strictly-ranked .ensures) ∙ e)
 
 two-by-two-requires : tie.Need-two-by-two-requires
@@ -66,16 +66,24 @@ player-ranks-requires-2 c κs = let f = known (c .before) in ((f .0, omega arith
 strictly-ranked-requires : tie.Need-strictly-ranked-requires
 strictly-ranked-requires c κs = search needs
 
+keys-requires : tie.Need-keys-requires
+keys-requires c κs = search needs
+
+slice-aggregate-place : tie.Need-slice-aggregate-place
+slice-aggregate-place c = search needs
+
 least-key-requires : tie.Need-least-key-requires
 least-key-requires c κs = search needs
 
-catalogue-place-requires : tie.Need-catalogue-place-requires
-catalogue-place-requires c κs = search needs
+place-requires : tie.Need-place-requires
+place-requires c κs = search needs
 
 returns : tie.Need-returns
 returns c =
-    let k = c .before .before in
-    c .catalogue-place .ensures ∙ ap (λ (n : ℕ). place catalogue n) (c .before .least-key .ensures) ∙ sym (told (k .before) true (k .if2 .taken))
+    let k = c .before .before .before in
+    c .place .ensures
+    ∙ ap₂ place (k .keys .ensures) (c .before .least-key .ensures)
+    ∙ sym (told (k .before .before) true (k .before .if2 .taken))
 
 returns-2 : tie.Need-returns-2
 returns-2 c = sym (told (c .before) false (c .if2 .left))
@@ -93,8 +101,10 @@ table-number-spec =
     player-ranks-requires
     player-ranks-requires-2
     strictly-ranked-requires
+    keys-requires
+    slice-aggregate-place
     least-key-requires
-    catalogue-place-requires
+    place-requires
     returns
     returns-2
     returns-3)

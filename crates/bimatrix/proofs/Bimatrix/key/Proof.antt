@@ -3,7 +3,6 @@ use borrow.Author.Needs.{needs}
 use Rattle.bimatrix.specs.Keys.{key}
 use Rattle.bimatrix.proofs.Bimatrix.key.Statement.{statement}
 use Rattle.bimatrix.proofs.Bimatrix.key.Tie as tie
-use Rattle.bimatrix.proofs.Square.base4.Reads as base4-reads
 
 base4-requires : tie.Need-base4-requires
 base4-requires c κs = search needs

@@ -2,7 +2,7 @@
 use mathlib.Core.Path.{ap, ap₂, _∙_}
 use Prim.Native.Nat.{min}
 use borrow.Author.Needs.{needs}
-use Rattle.bimatrix.specs.Squares.{swapRows, both}
+use Rattle.bimatrix.specs.Matrices.{swapRows, both}
 use Rattle.bimatrix.specs.Keys.{key, leastKey}
 use Rattle.bimatrix.proofs.Bimatrix.least_key.Statement.{statement}
 use Rattle.bimatrix.proofs.Bimatrix.least_key.Tie as tie

@@ -1,10 +1,10 @@
--- `bimatrix::Square::different` meets its contract: the six tests are those of the definition, one after the other. Assumes nothing.
+-- `bimatrix::Matrix::different` meets its contract: the six tests are those of the definition, one after the other. Assumes nothing.
 use mathlib.Core.Path.{_≡_, refl}
 use mathlib.Core.Bool.{Bool, true, false, not, _&&_}
 use lib.Dec.{eqb}
 use Rattle.bimatrix.specs.Keys.{different}
-use Rattle.bimatrix.proofs.Square.different.Statement.{statement}
-use Rattle.bimatrix.proofs.Square.different.Tie as tie
+use Rattle.bimatrix.proofs.Matrix.different.Statement.{statement}
+use Rattle.bimatrix.proofs.Matrix.different.Tie as tie
 
 regrouped : (a b c d e f : Bool) → a && b && c && d && e && f ≡ a && (b && (c && true)) && (d && (e && true) && (f && true && true))
 regrouped false b c d e f = refl

@@ -3,36 +3,39 @@
 use mathlib.Core.List.{List, [], _∷_}
 use Prim.Native.Nat.{ℕ}
 use Rattle.game.specs.Game.{Game}
-use Rattle.bimatrix.specs.declared.Square.{Square}
+use Rattle.bimatrix.specs.declared.Matrix.{Matrix}
 use Rattle.bimatrix.specs.declared.Bimatrix.{Bimatrix}
 
--- ---- a number at each profile
+-- ---- one player's matrix: a number at each profile
 
 -- what f gives at the four profiles
-abbrev pub squareOf : (List ℕ → ℕ) → Square
-squareOf f = record { at00 = f (0 ∷ 0 ∷ []); at01 = f (0 ∷ 1 ∷ []); at10 = f (1 ∷ 0 ∷ []); at11 = f (1 ∷ 1 ∷ []) }
+abbrev pub matrixOf : (List ℕ → ℕ) → Matrix
+matrixOf f = record { at00 = f (0 ∷ 0 ∷ []); at01 = f (0 ∷ 1 ∷ []); at10 = f (1 ∷ 0 ∷ []); at11 = f (1 ∷ 1 ∷ []) }
 
 -- the four numbers, the profiles in order
-abbrev pub inOrder : Square → List ℕ
+abbrev pub inOrder : Matrix → List ℕ
 inOrder q = q .at00 ∷ q .at01 ∷ q .at10 ∷ q .at11 ∷ []
 
 -- the rows swapped
-abbrev pub swapRows : Square → Square
+abbrev pub swapRows : Matrix → Matrix
 swapRows q = record { at00 = q .at10; at01 = q .at11; at10 = q .at00; at11 = q .at01 }
 
 -- the columns swapped
-abbrev pub swapColumns : Square → Square
+abbrev pub swapColumns : Matrix → Matrix
 swapColumns q = record { at00 = q .at01; at01 = q .at00; at10 = q .at11; at11 = q .at10 }
 
--- ---- a number for each of the two players at each profile
+-- ---- a bimatrix: a matrix for each of the two players
+
+abbrev pub bimatrixOf : Matrix → Matrix → Bimatrix
+bimatrixOf a b = record { first = a; second = b }
 
 -- what a game of two players with two strategies each pays
 abbrev pub bimatrix : Game → Bimatrix
-bimatrix g = record { first = squareOf (g .pay 0); second = squareOf (g .pay 1) }
+bimatrix g = bimatrixOf (matrixOf (g .pay 0)) (matrixOf (g .pay 1))
 
--- each player's numbers changed by f
-abbrev pub both : (Square → Square) → Bimatrix → Bimatrix
-both f b = record { first = f (b .first); second = f (b .second) }
+-- each player's matrix changed by f
+abbrev pub both : (Matrix → Matrix) → Bimatrix → Bimatrix
+both f b = bimatrixOf (f (b .first)) (f (b .second))
 
 -- the four tables got by swapping neither, rows, columns or both
 abbrev pub swaps : Bimatrix → List Bimatrix
