@@ -27,8 +27,15 @@ pub const NOT_DOMINATED: u32 = 15;
 pub const FOREIGN: u32 = 16;
 
 /// The refusals of a table, in their order.
-pub const TABLE_FAULTS: [u32; 7] =
-    [NO_PLAYERS, MANY_PLAYERS, NO_STRATEGIES, MANY_STRATEGIES, MANY_CELLS, PAYOFF_COUNT, NON_FINITE];
+pub const TABLE_FAULTS: [u32; 7] = [
+    NO_PLAYERS,
+    MANY_PLAYERS,
+    NO_STRATEGIES,
+    MANY_STRATEGIES,
+    MANY_CELLS,
+    PAYOFF_COUNT,
+    NON_FINITE,
+];
 
 /// Profiles × P, or the largest number where that is larger.
 pub fn cells(counts: &[usize]) -> u128 {

@@ -419,8 +419,13 @@ fn place_in(random: &mut Random, from: usize, limit: usize) -> usize {
 }
 
 /// The refusals that the calls have beside a table's.
-const FAULTS: [u32; 5] =
-    [document::FOREIGN, document::PLAYER, document::GONE, document::NOT_DOMINATED, document::SHORT];
+const FAULTS: [u32; 5] = [
+    document::FOREIGN,
+    document::PLAYER,
+    document::GONE,
+    document::NOT_DOMINATED,
+    document::SHORT,
+];
 
 /// An input with the faults of a set and no others, as far as they go together: so each refusal comes with every later
 /// fault present too.
