@@ -16,8 +16,9 @@ const OUTSIDE: (Judge, &[u32]) = (Judge::Outside, &[2, 3, 4, 5]);
 const BOTH: (Judge, &[u32]) = (Judge::SixAndSeven, &[6]);
 const SHORT: (Judge, &[u32]) = (Judge::TooShort, &[13]);
 
-/// Compares every call and prints a line for each.
+/// Compares every call and prints a line for each. Two threads share the calls, such that they take about as long.
 pub fn compare() {
+    let other = std::thread::spawn(|| (strikes::strikes(), deposit::deposits()));
     let (mut with_rust, mut with_document) = (0, 0);
     let mut report = |tally: Tally, rust: &[u32], others: &[(Judge, &[u32])]| {
         tally.report(rust, others);
@@ -47,8 +48,9 @@ pub fn compare() {
     report(solvers.count, &[0, 1, 3, 6, 7], &table);
     report(solvers.equilibria, &[0, 1, 3, 6, 7], &lists);
     report(solvers.dominated, &[0, 1, 3, 6, 7, 8], &lists);
-    strike_calls(&mut report);
     let candidates = candidates::candidates();
+    let (strikes, deposits) = other.join().unwrap();
+    strike_calls(strikes, &mut report);
     let classes =
         |grounds: &[Ground]| -> Vec<u32> { grounds.iter().map(|ground| *ground as u32).collect() };
     let sizes = classes(&[Ground::Sizes]);
@@ -58,7 +60,6 @@ pub fn compare() {
     let verdict = classes(&Candidates::VERDICT);
     report(candidates.verdict, &[], &[(Judge::Unasked, &verdict)]);
     report(candidates.minimax, &classes(&Candidates::MINIMAX), &others);
-    let deposits = deposit::deposits();
     let read: Vec<u32> = (0..deposit::GROUNDS.len() as u32).collect();
     report(deposits.read, &[], &[(Judge::Unasked, &read)]);
     report(deposits.write, &[], &[(Judge::Unasked, &Deposits::WRITE)]);
@@ -66,8 +67,7 @@ pub fn compare() {
 }
 
 /// The calls on survivors.
-fn strike_calls(report: &mut impl FnMut(Tally, &[u32], &[(Judge, &[u32])])) {
-    let strikes = strikes::strikes();
+fn strike_calls(strikes: Strikes, report: &mut impl FnMut(Tally, &[u32], &[(Judge, &[u32])])) {
     strikes.report_answers();
     report(strikes.fresh, &[0, 1, 3, 6, 7], &[OUTSIDE, BOTH]);
     let refused = [&Strikes::GONE[..], &Strikes::FOREIGN].concat();

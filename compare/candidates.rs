@@ -5,7 +5,7 @@ use crate::cases::Random;
 use crate::document::{self, Ground, ACTIONS};
 use crate::library::{self, Answer, Bits, Claim};
 use crate::rust;
-use crate::tally::{agreed, floats, numbers, Judge, Tally};
+use crate::tally::{agreed, floats, numbers, sure, Judge, Tally};
 
 /// The cases that each ground of an answer has at least.
 const LEAST: usize = 4_000;
@@ -244,10 +244,10 @@ fn known(candidates: &mut Candidates, random: &mut Random) {
     let claims = candidate_cases::known_claims()
         .iter()
         .all(|(candidate, claim, yes)| candidates.minimax(candidate, *claim) == *yes);
-    if !gains || !claims {
-        println!("compare: a candidate whose answer is known has another one");
-        std::process::exit(1);
-    }
+    sure(
+        gains && claims,
+        "a candidate whose answer is known has another one",
+    );
 }
 
 /// A solved game with tolerances at what it needs, beside it and anywhere, and moved by about the tolerance.

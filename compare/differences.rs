@@ -63,6 +63,7 @@ fn wrapped_listing() -> (&'static str, bool) {
     ("the listing of such counts", listed)
 }
 
+/// The hook is that of all threads: no other runs meanwhile.
 fn panics<T>(call: impl FnOnce() -> T + UnwindSafe) -> bool {
     let hook = std::panic::take_hook();
     std::panic::set_hook(Box::new(|_| ()));

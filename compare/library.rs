@@ -2,9 +2,9 @@
 //! guards, so that a refused call that wrote, or a call that wrote past an output, is seen.
 
 use crate::document::{self, PLAYERS, STRATEGIES};
+use std::cell::Cell;
 use std::fmt;
 use std::ops::Range;
-use std::sync::atomic::{AtomicUsize, Ordering::Relaxed};
 
 const _: () = assert!(usize::BITS == 64, "an output's word is a usize or an f64");
 
@@ -332,12 +332,12 @@ const PATTERNS: [u64; 5] = [
     0x7ff4_5555_aaaa_5555,
 ];
 
-/// The place among the patterns whose turn it is.
+/// The place among the patterns whose turn it is; threads take turns each for itself.
 fn turn() -> usize {
-    static TURN: AtomicUsize = AtomicUsize::new(0);
-    let turn = TURN.load(Relaxed);
-    TURN.store(turn + 1, Relaxed);
-    turn
+    thread_local! {
+        static TURN: Cell<usize> = const { Cell::new(0) };
+    }
+    TURN.replace(TURN.get() + 1)
 }
 
 /// N words between two guards.

@@ -2,7 +2,8 @@
 
 use crate::document::{self, Ground};
 use crate::library::Answer;
-use std::fmt::{Debug, Write};
+use std::fmt::{Debug, Write as _};
+use std::io::Write as _;
 
 /// What a case of a status is counted under.
 pub const STATUSES: [&str; document::SHORT as usize + 1] = [
@@ -107,11 +108,11 @@ impl Tally {
                 Judge::Rust => "the Rust",
                 _ => "document 01",
             };
-            println!("compare: {} differs", self.name);
-            print!("{}", input());
-            println!("  {judge_name}: {judge:?}");
-            println!("  the library: {library:?}");
-            std::process::exit(1);
+            end(&format!(
+                "{} differs\n{}  {judge_name}: {judge:?}\n  the library: {library:?}",
+                self.name,
+                input()
+            ));
         }
         self.cases[by as usize][class as usize] += 1;
     }
@@ -134,8 +135,7 @@ impl Tally {
             let few = |class: &&u32| cases[**class as usize] < self.least;
             if let Some(class) = expected.iter().find(few) {
                 let title = self.classes[*class as usize];
-                println!("compare: {} has too few cases of: {title}", self.name);
-                std::process::exit(1);
+                end(&format!("{} has too few cases of: {title}", self.name));
             }
         }
     }
@@ -153,20 +153,27 @@ impl Tally {
     }
 }
 
+/// Ends the run. The output stays locked, so that no other thread prints between this and the end.
+fn end(wrong: &str) -> ! {
+    let mut output = std::io::stdout().lock();
+    let _ = writeln!(output, "compare: {wrong}");
+    std::process::exit(1)
+}
+
 /// Ends the run where what must hold does not.
 pub fn sure(holds: bool, wrong: &str) {
     if !holds {
-        println!("compare: {wrong}");
-        std::process::exit(1);
+        end(wrong);
     }
 }
 
 /// Where the Rust and document 01 both judge, they answer the same.
 pub fn agreed<T: Debug + PartialEq>(rust: T, document: T, input: impl FnOnce() -> String) {
     if rust != document {
-        print!("compare: the Rust and document 01 differ\n{}", input());
-        println!("  the Rust: {rust:?}\n  document 01: {document:?}");
-        std::process::exit(1);
+        end(&format!(
+            "the Rust and document 01 differ\n{}  the Rust: {rust:?}\n  document 01: {document:?}",
+            input()
+        ));
     }
 }
 
