@@ -2,8 +2,9 @@
 
 use crate::candidate_cases;
 use crate::cases::{self, Random};
+use crate::catalogue::{self, COUNTS};
 use crate::document::{ACTIONS, CELLS, PLAYERS, STRATEGIES};
-use crate::library::{self, Answer, Bits, Claim, File, Held, Listing, Lists, StrikeLists};
+use crate::library::{self, Answer, Bits, Claim, Entry, File, Held, Listing, Lists, StrikeLists};
 use crate::plain;
 use crate::rust;
 use crate::survivors::{self, Game, Left};
@@ -51,6 +52,7 @@ pub fn bench() {
     candidates(&mut random);
     eliminations(&shapes[1..], &payoffs);
     deposits(&[8, 8, 16, 16], &payoffs);
+    catalogue();
 }
 
 fn finite(name: &str, payoffs: &[f64]) {
@@ -411,6 +413,39 @@ fn speeds(call: &str, counts: &[usize], bytes: usize, (library, rust): (f64, f64
         speed(library),
         speed(rust)
     );
+}
+
+/// A table's number; beside the library stands plain Rust. The outputs and the Rust's keys are there beforehand.
+fn catalogue() {
+    println!(
+        "\n{:<56} {:>12} {:>12} {:>14}",
+        "catalogue", "library, ns", "Rust, ns", "Rust / library"
+    );
+    let keys = catalogue::least_keys().into_iter();
+    let keys: Vec<u16> = keys.map(|key| key as u16).collect();
+    let keys = keys.try_into().unwrap();
+    let ranked = [2.0, 2.0, 0.0, 3.0, 3.0, 0.0, 1.0, 1.0];
+    let mut tied = ranked;
+    tied[7] = 2.0;
+    let mut entry = Entry::fresh();
+    for (kind, payoffs) in [("strictly ranked", ranked), ("a tie", tied)] {
+        let table = || (black_box(&COUNTS), black_box(&payoffs));
+        let plain = || {
+            let (counts, payoffs) = table();
+            plain::number(black_box(&keys), counts, payoffs)
+        };
+        row(
+            &format!("number, {}, {kind}", shape(&COUNTS)),
+            || {
+                let (counts, payoffs) = table();
+                library::number(counts, payoffs, &mut entry)
+            },
+            plain,
+        );
+        let number = plain().unwrap();
+        let told = (number.is_some(), number.unwrap_or(0));
+        assert!(entry.answer(0) == Answer::Accepted(told), "two numbers");
+    }
 }
 
 fn row<A, B>(name: &str, library: impl FnMut() -> A, rust: impl FnMut() -> B) {

@@ -2,6 +2,7 @@
 
 use crate::candidates::{self, Candidates};
 use crate::cases::{self, Random};
+use crate::catalogue;
 use crate::deposit::{self, Deposits};
 use crate::document::{self, Ground, CELLS, PLAYERS, STRATEGIES};
 use crate::library::{self, Answer, Bits};
@@ -18,7 +19,13 @@ const SHORT: (Judge, &[u32]) = (Judge::TooShort, &[13]);
 
 /// Compares every call and prints a line for each. Two threads share the calls, such that they take about as long.
 pub fn compare() {
-    let other = std::thread::spawn(|| (strikes::strikes(), deposit::deposits()));
+    let other = std::thread::spawn(|| {
+        (
+            strikes::strikes(),
+            deposit::deposits(),
+            catalogue::catalogue(),
+        )
+    });
     let (mut with_rust, mut with_document) = (0, 0);
     let mut report = |tally: Tally, rust: &[u32], others: &[(Judge, &[u32])]| {
         tally.report(rust, others);
@@ -49,7 +56,7 @@ pub fn compare() {
     report(solvers.equilibria, &[0, 1, 3, 6, 7], &lists);
     report(solvers.dominated, &[0, 1, 3, 6, 7, 8], &lists);
     let candidates = candidates::candidates();
-    let (strikes, deposits) = other.join().unwrap();
+    let (strikes, deposits, catalogue) = other.join().unwrap();
     strike_calls(strikes, &mut report);
     let classes =
         |grounds: &[Ground]| -> Vec<u32> { grounds.iter().map(|ground| *ground as u32).collect() };
@@ -63,6 +70,9 @@ pub fn compare() {
     let read: Vec<u32> = (0..deposit::GROUNDS.len() as u32).collect();
     report(deposits.read, &[], &[(Judge::Unasked, &read)]);
     report(deposits.write, &[], &[(Judge::Unasked, &Deposits::WRITE)]);
+    catalogue.report_numbers();
+    let titles: Vec<u32> = (0..catalogue::TITLES.len() as u32).collect();
+    report(catalogue.number, &[], &[(Judge::Unasked, &titles)]);
     println!("compare: {with_rust} cases with the Rust and {with_document} with document 01 alone, 0 differences");
 }
 

@@ -1,5 +1,5 @@
-/* Every call of include/sigvanyor.h from C, on document 01's table of counts 2 3 4, its first game, that one's file and candidates for it
- * and for a game of 1 x 2, and the header's limits: the header fits the archive. */
+/* Every call of include/sigvanyor.h from C, on document 01's table of counts 2 3 4, its first game, that one's file and number,
+ * candidates for it and for a game of 1 x 2, and the header's limits: the header fits the archive. */
 #include "sigvanyor.h"
 #include <stdio.h>
 
@@ -150,6 +150,22 @@ static void deposits(void) {
         expect("read", read_payoffs[i] == payoffs[i]);
 }
 
+/* The game of `solvers`, the same with a tie, and the table of one player with 2 strategies. */
+static void catalogue(void) {
+    const size_t counts[] = {2, 2};
+    const double payoffs[] = {2, 2, 0, 3, 3, 0, 1, 1}, tied[] = {2, 2, 0, 3, 3, 0, 1, 2};
+    size_t number = 99;
+    bool listed = false;
+
+    expect("number", sigvanyor_number(counts, 2, payoffs, 7, &listed, &number) == 6 && !listed && number == 99);
+    expect("number", sigvanyor_number(counts, 2, payoffs, 8, &listed, &number) == 0 && listed && number == 71);
+    expect("number", sigvanyor_number(counts, 0, payoffs, 8, &listed, &number) == 1 && listed && number == 71);
+    expect("number", sigvanyor_number(counts, 2, tied, 8, &listed, &number) == 0 && !listed && number == 0);
+    listed = true;
+    number = 99;
+    expect("number", sigvanyor_number(counts, 1, payoffs, 2, &listed, &number) == 0 && !listed && number == 0);
+}
+
 int main(void) {
     const size_t counts[] = {2, 3, 4}, profile[] = {1, 2, 3};
     double payoffs[72], utility = -1;
@@ -179,6 +195,7 @@ int main(void) {
     strikes();
     candidates();
     deposits();
+    catalogue();
     limits();
     if (!wrong)
         printf("header: every call answers as declared\n");

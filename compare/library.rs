@@ -215,6 +215,14 @@ extern "C" {
         bytes_len: usize,
         written: *mut usize,
     ) -> u32;
+    fn sigvanyor_number(
+        counts: *const usize,
+        counts_len: usize,
+        payoffs: *const f64,
+        payoffs_len: usize,
+        listed: *mut u8,
+        number: *mut usize,
+    ) -> u32;
 }
 
 /// What a minimax candidate claims.
@@ -376,6 +384,18 @@ impl<const N: usize> Output<N> {
 
     fn numbers(&self) -> [usize; N] {
         self.words.map(|word| word as usize)
+    }
+}
+
+impl Output<1> {
+    /// The byte that a call writes which says yes or no.
+    fn byte(&self) -> u8 {
+        self.words[0] as u8
+    }
+
+    /// The word's other bytes are to keep their contents too.
+    fn byte_guarded(&self) -> bool {
+        self.guarded() && self.words[0] >> 8 == self.pattern >> 8
     }
 }
 
@@ -774,7 +794,6 @@ pub fn best_responses(
     )
 }
 
-/// The answer is one byte of the output's word; the others are to keep their contents.
 pub fn is_equilibrium(counts: &[usize], payoffs: &[f64], profile: &[usize]) -> Answer<bool> {
     let mut equilibrium = Output::<1>::fresh();
     let status = call!(
@@ -782,10 +801,9 @@ pub fn is_equilibrium(counts: &[usize], payoffs: &[f64], profile: &[usize]) -> A
         [counts, payoffs, profile],
         equilibrium.place()
     );
-    let word = equilibrium.words[0];
-    let guarded = equilibrium.guarded() && word >> 8 == equilibrium.pattern >> 8;
+    let guarded = equilibrium.byte_guarded();
     if status == 0 {
-        truth(word as u8, guarded, |equilibrium| equilibrium)
+        truth(equilibrium.byte(), guarded, |equilibrium| equilibrium)
     } else {
         answer(status, guarded, equilibrium.untouched(), || false)
     }
@@ -1057,5 +1075,41 @@ pub fn write(counts: &[usize], payoffs: &[f64], file: &mut File) -> u32 {
         file.bytes.place(),
         file.bytes.len(),
         file.written.place()
+    )
+}
+
+/// The outputs of the call that gives a table's catalogue number: whether it has one, and the number.
+pub struct Entry {
+    listed: Output<1>,
+    number: Output<1>,
+}
+
+impl Entry {
+    pub fn fresh() -> Self {
+        Self {
+            listed: Output::fresh(),
+            number: Output::fresh(),
+        }
+    }
+
+    pub fn answer(&self, status: u32) -> Answer<(bool, usize)> {
+        let Self { listed, number } = self;
+        let guarded = listed.byte_guarded() && number.guarded();
+        let told = number.numbers()[0];
+        if status == 0 {
+            truth(listed.byte(), guarded, |listed| (listed, told))
+        } else {
+            let untouched = listed.untouched() && number.untouched();
+            answer(status, guarded, untouched, || (false, told))
+        }
+    }
+}
+
+pub fn number(counts: &[usize], payoffs: &[f64], entry: &mut Entry) -> u32 {
+    call!(
+        sigvanyor_number,
+        [counts, payoffs],
+        entry.listed.place(),
+        entry.number.place()
     )
 }

@@ -8,6 +8,8 @@ mod candidate_cases;
 mod candidate_record;
 mod candidates;
 mod cases;
+mod catalogue;
+mod catalogue_cases;
 mod deposit;
 mod deposit_cases;
 mod differences;

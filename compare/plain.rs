@@ -1,5 +1,7 @@
-//! A reader and a writer of deposit files in plain Rust, for the times: a pass that checks and one that writes.
+//! Plain Rust, for the times: a reader and a writer of deposit files, each a pass that checks and one that writes, and a
+//! table's catalogue number.
 
+use crate::catalogue::{COUNTS, NUMBERS};
 use crate::deposit::{CELL, CLOSING, COUNT, OPENING, PAYLOADS};
 use crate::document::{CELLS, PLAYERS, STRATEGIES};
 
@@ -105,8 +107,9 @@ pub fn read(bytes: &[u8], counts: &mut [usize], payoffs: &mut [f64]) -> Result<u
     Ok(players)
 }
 
-#[inline(never)]
-pub fn write(counts: &[usize], payoffs: &[f64], bytes: &mut [u8]) -> Result<usize, u32> {
+/// The cells of a table.
+#[inline(always)]
+fn checked(counts: &[usize], payoffs: &[f64]) -> Result<usize, u32> {
     if counts.is_empty() {
         return Err(1);
     }
@@ -127,6 +130,12 @@ pub fn write(counts: &[usize], payoffs: &[f64], bytes: &mut [u8]) -> Result<usiz
     if !payoffs.iter().all(|payoff| payoff.is_finite()) {
         return Err(7);
     }
+    Ok(cells)
+}
+
+#[inline(never)]
+pub fn write(counts: &[usize], payoffs: &[f64], bytes: &mut [u8]) -> Result<usize, u32> {
+    let cells = checked(counts, payoffs)?;
     let before = 1 + counts.len() + 3 * cells;
     let length = 4 * (before + 1);
     if bytes.len() < length {
@@ -147,4 +156,44 @@ pub fn write(counts: &[usize], payoffs: &[f64], bytes: &mut [u8]) -> Result<usiz
     }
     closing.copy_from_slice(&word(CLOSING, before as u32));
     Ok(length)
+}
+
+/// The payoffs' order: both zeros are 0.
+fn order_key(payoff: f64) -> i64 {
+    let bits = payoff.to_bits() as i64;
+    if bits < 0 {
+        i64::MIN - bits
+    } else {
+        bits
+    }
+}
+
+/// The ranks of a player's payoffs at the four profiles, if no two are equal.
+fn ranks(payoffs: &[f64], player: usize) -> Option<[u16; 4]> {
+    let keys = [0, 2, 4, 6].map(|place| order_key(payoffs[place + player]));
+    let ranks = keys.map(|key| keys.map(|other| u16::from(other < key)).iter().sum::<u16>());
+    let each = ranks.iter().fold(0, |each, rank| each | 1 << rank);
+    (each == 0b1111).then_some(ranks)
+}
+
+/// The table's number, where the least keys are these, ascending.
+#[inline(never)]
+pub fn number(
+    least_keys: &[u16; NUMBERS],
+    counts: &[usize],
+    payoffs: &[f64],
+) -> Result<Option<usize>, u32> {
+    checked(counts, payoffs)?;
+    if counts != COUNTS {
+        return Ok(None);
+    }
+    let (Some(first), Some(second)) = (ranks(payoffs, 0), ranks(payoffs, 1)) else {
+        return Ok(None);
+    };
+    let digits = |ranks: [u16; 4]| ranks.iter().fold(0, |digits, rank| digits << 2 | rank);
+    let key = digits(first) << 8 | digits(second);
+    let rows = |key: u16| (key & 0x0f0f) << 4 | key >> 4 & 0x0f0f;
+    let columns = |key: u16| (key & 0x3333) << 2 | key >> 2 & 0x3333;
+    let least = key.min(rows(key)).min(columns(key)).min(rows(columns(key)));
+    Ok(least_keys.binary_search(&least).ok())
 }
