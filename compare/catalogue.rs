@@ -6,7 +6,7 @@ use crate::catalogue_cases;
 use crate::document;
 use crate::library::{self, Answer, Entry};
 use crate::strikes::LEAST;
-use crate::tally::{floats, numbers, sure, Judge, Tally};
+use crate::tally::{self, floats, numbers, sure, Judge, Tally};
 
 pub const NUMBERS: usize = 144;
 
@@ -31,16 +31,7 @@ enum Ground {
     Zeros,
 }
 
-/// What a case is counted under: that there is a number, each refusal, each ground.
-pub const TITLES: [&str; document::TABLE_FAULTS.len() + Ground::Zeros as usize + 2] = [
-    "strictly ranked:",
-    "refused by 1:",
-    "refused by 2:",
-    "refused by 3:",
-    "refused by 4:",
-    "refused by 5:",
-    "refused by 6:",
-    "refused by 7:",
+const GROUNDS: [&str; Ground::Zeros as usize + 1] = [
     "none, one player:",
     "none, two players with other counts:",
     "none, three or more players:",
@@ -49,6 +40,15 @@ pub const TITLES: [&str; document::TABLE_FAULTS.len() + Ground::Zeros as usize +
     "none, ties of both:",
     "none, no ties but of the two zeros:",
 ];
+
+/// What a case is counted under: that there is a number, each refusal, each ground.
+pub const TITLES: [&str; 1 + document::TABLE_FAULTS.len() + GROUNDS.len()] = titles();
+
+const fn titles() -> [&'static str; 1 + document::TABLE_FAULTS.len() + GROUNDS.len()] {
+    let mut all = tally::after_statuses(&GROUNDS);
+    all[0] = "strictly ranked:";
+    all
+}
 
 /// What is said of a table.
 enum Said {

@@ -3,7 +3,7 @@
 
 use crate::document::{self, PLAYERS, STRATEGIES};
 use crate::library::{Bits, Listing, Survivors, MARKS};
-use crate::tally::STATUSES;
+use crate::tally::{self, STATUSES};
 
 /// The strategies of each player that are left, ascending.
 pub type Left = Vec<Vec<usize>>;
@@ -39,21 +39,7 @@ const OTHERS: [&str; STRUCK as usize + 1 - STATUSES.len()] = [
     "refused by 14, struck:",
 ];
 
-pub const GROUNDS: [&str; STATUSES.len() + OTHERS.len()] = grounds();
-
-const fn grounds() -> [&'static str; STATUSES.len() + OTHERS.len()] {
-    let mut all = [""; STATUSES.len() + OTHERS.len()];
-    let mut i = 0;
-    while i < all.len() {
-        all[i] = if i < STATUSES.len() {
-            STATUSES[i]
-        } else {
-            OTHERS[i - STATUSES.len()]
-        };
-        i += 1;
-    }
-    all
-}
+pub const GROUNDS: [&str; STATUSES.len() + OTHERS.len()] = tally::after_statuses(&OTHERS);
 
 /// The number of the refusal that has the ground.
 pub fn refusal(ground: u32) -> u32 {

@@ -23,6 +23,22 @@ pub const STATUSES: [&str; document::SHORT as usize + 1] = [
     "refused by 13:",
 ];
 
+/// Other classes after the first statuses, as many of these as there is room for.
+pub const fn after_statuses<const N: usize>(others: &[&'static str]) -> [&'static str; N] {
+    let statuses = N - others.len();
+    let mut all = [""; N];
+    let mut i = 0;
+    while i < N {
+        all[i] = if i < statuses {
+            STATUSES[i]
+        } else {
+            others[i - statuses]
+        };
+        i += 1;
+    }
+    all
+}
+
 /// Who judges a case: the Rust; or document 01 alone, outside the comparison's domain, where a table has both 6 and 7,
 /// which the Rust meets in the other order, so that such inputs stay out of the comparison with it, where an output is
 /// shorter than the list, since the Rust is lent no outputs, where the Rust panics, and where the Rust has no such call
