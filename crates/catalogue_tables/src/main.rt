@@ -128,7 +128,8 @@ fn of_pair(name: &[u8], payoffs: &[f64; 8]) {
     of_table(name, &PAIR, payoffs);
 }
 
-fn games() {
+// The prisoner's dilemma and what it becomes.
+fn dilemmas() {
     of_pair(
         b"prisoner's dilemma",
         &[2.0, 2.0, 0.0, 3.0, 3.0, 0.0, 1.0, 1.0],
@@ -142,6 +143,9 @@ fn games() {
         &[0.0, 3.0, 2.0, 2.0, 1.0, 1.0, 3.0, 0.0],
     );
     of_pair(b"both swapped", &[1.0, 1.0, 3.0, 0.0, 0.0, 3.0, 2.0, 2.0]);
+}
+
+fn games() {
     of_pair(
         b"its players' payoffs exchanged",
         &[2.0, 2.0, 3.0, 0.0, 0.0, 3.0, 1.0, 1.0],
@@ -160,7 +164,7 @@ fn games() {
     );
 }
 
-fn ties() {
+fn zeros() {
     of_pair(
         b"both zeros, first player",
         &[0.0, 2.0, -0.0, 3.0, 3.0, 0.0, 1.0, 1.0],
@@ -177,6 +181,9 @@ fn ties() {
         b"-0.0 and its neighbours",
         &[LEAST, 2.0, -LEAST, 3.0, 1.0, 0.0, -0.0, 1.0],
     );
+}
+
+fn ties() {
     of_pair(
         b"one tie, first player",
         &[2.0, 2.0, 0.0, 3.0, 2.0, 0.0, 1.0, 1.0],
@@ -186,6 +193,9 @@ fn ties() {
         &[2.0, 2.0, 0.0, 3.0, 3.0, 0.0, 1.0, 3.0],
     );
     of_pair(b"one tie each", &[2.0, 2.0, 2.0, 3.0, 3.0, 0.0, 1.0, 0.0]);
+}
+
+fn others() {
     of_pair(
         b"equal across players only",
         &[0.0, 0.0, 1.0, 1.0, 2.0, 2.0, 3.0, 3.0],
@@ -197,23 +207,32 @@ fn ties() {
     );
 }
 
-// Other shapes, of payoffs that are all different.
-fn shapes(payoffs: &[f64]) {
+// Shapes, of payoffs that are all different.
+fn one_player(payoffs: &[f64]) {
     of_table(b"one player, 2", &[2], first(payoffs, 2));
     of_table(b"one player, 4", &[4], first(payoffs, 4));
     of_table(
-        b"one player, 64",
+        b"one player, as many as there may be",
         &[MAX_STRATEGIES],
         first(payoffs, MAX_STRATEGIES),
     );
+}
+
+fn one_strategy(payoffs: &[f64]) {
     of_table(b"1 x 1", &[1, 1], first(payoffs, 2));
     of_table(b"1 x 4", &[1, 4], first(payoffs, 8));
     of_table(b"4 x 1", &[4, 1], first(payoffs, 8));
     of_table(b"1 x 2", &[1, 2], first(payoffs, 4));
     of_table(b"2 x 1", &[2, 1], first(payoffs, 4));
+}
+
+fn two_players(payoffs: &[f64]) {
     of_table(b"2 x 2", &[2, 2], first(payoffs, 8));
     of_table(b"2 x 3", &[2, 3], first(payoffs, 12));
     of_table(b"3 x 2", &[3, 2], first(payoffs, 12));
+}
+
+fn more_players(payoffs: &[f64]) {
     of_table(b"2 x 2 x 1", &[2, 2, 1], first(payoffs, 12));
     of_table(b"1 x 2 x 2", &[1, 2, 2], first(payoffs, 12));
     of_table(b"2 x 2 x 2", &[2, 2, 2], first(payoffs, 24));
@@ -229,16 +248,19 @@ fn shapes(payoffs: &[f64]) {
     );
 }
 
-fn refusals(payoffs: &[f64]) {
+fn counts_refused(payoffs: &[f64]) {
     of_table(b"no players", &[], &[]);
     of_table(b"nine players", &[2; MAX_PLAYERS + 1], first(payoffs, 4608));
     of_table(b"0 strategies", &[2, 0], &[]);
     of_table(
-        b"65 strategies",
+        b"one strategy too many",
         &[2, MAX_STRATEGIES + 1],
         first(payoffs, 260),
     );
     of_table(b"8 x 8 x 16 x 17", &[8, 8, 16, 17], payoffs);
+}
+
+fn payoffs_refused(payoffs: &[f64]) {
     of_table(b"seven payoffs", &PAIR, first(payoffs, 7));
     of_table(b"nine payoffs", &PAIR, first(payoffs, 9));
     of_pair(
@@ -264,10 +286,17 @@ fn main() {
     text(b"none: came");
     number(without);
     text(b"\n");
+    dilemmas();
     games();
+    zeros();
     ties();
+    others();
     let mut payoffs = [0.0; LENGTH];
     fill(&mut payoffs, 0.0, 1.0);
-    shapes(&payoffs);
-    refusals(&payoffs);
+    one_player(&payoffs);
+    one_strategy(&payoffs);
+    two_players(&payoffs);
+    more_players(&payoffs);
+    counts_refused(&payoffs);
+    payoffs_refused(&payoffs);
 }
