@@ -13,7 +13,7 @@ use Rattle.game.specs.Finite.{_∈_, all, filter, Sorted}
 use Rattle.game.proofs.Finite.{and-T, no-T, ltb-T, eqb-T, le-or-lt, all-T, filter-at-most}
 use Rattle.bimatrix.specs.declared.Bimatrix.{Bimatrix}
 use Rattle.bimatrix.specs.Matrices.{inOrder}
-use Rattle.bimatrix.specs.Keys.{rankAmong, oneIfLess, ranks, different, strictlyRanked}
+use Rattle.bimatrix.specs.Keys.{rankAmong, oneIfLess, ranks, pairwise, different, strictlyRanked}
 
 -- ---- how many pass a test
 
@@ -96,16 +96,24 @@ rank-same xs x y h k =
 
 -- ---- no two are equal
 
+-- each stands to every later one as the test says
+pub pairwise-law : (test : ℕ → ℕ → Bool) (R : ℕ → ℕ → Type 0) → ((x y : ℕ) → T (test x y) ↔ R x y)
+    → (xs : List ℕ) → T (pairwise test xs) ↔ Sorted R xs
+pairwise-law test R law [] = (λ h. tt, λ h. tt)
+pairwise-law test R law (x ∷ xs) =
+    let (to, from) = and-T (all (test x) xs) (pairwise test xs) in
+    let (down, up) = pairwise-law test R law xs in (
+      λ t. (λ y k. law x y .0 (all-T (test x) xs .0 (to t .0) y k), down (to t .1)),
+      λ h. from (all-T (test x) xs .1 (λ y k. law x y .1 (h .0 y k)), up (h .1)),
+    )
+
 pub different-law : (xs : List ℕ) → T (different xs) ↔ Sorted (λ x y. x ≢ y) xs
 unfolding different
-different-law [] = (λ h. tt, λ h. tt)
-different-law (x ∷ xs) =
-    let test : ℕ → Bool = λ y. not (eqb x y) in
-    let (to, from) = and-T (all test xs) (different xs) in
-    let (down, up) = different-law xs in (
-      λ t. (λ y k e. no-T (eqb x y) .0 (all-T test xs .0 (to t .0) y k) (eqb-T x y .1 e), down (to t .1)),
-      λ h. from (all-T test xs .1 (λ y k. no-T (eqb x y) .1 (λ t. h .0 y k (eqb-T x y .0 t))), up (h .1)),
-    )
+different-law =
+    pairwise-law (λ x y. not (eqb x y)) (λ x y. x ≢ y) (λ x y. (
+      λ t e. no-T (eqb x y) .0 t (eqb-T x y .1 e),
+      λ n. no-T (eqb x y) .1 (λ t. n (eqb-T x y .0 t)),
+    ))
 
 module _ (xs : List ℕ) where
   from-others : (x : ℕ) (ys : List ℕ) → x ∈ xs → ((y : ℕ) → y ∈ ys → y ∈ xs)

@@ -33,10 +33,14 @@ ranked q =
 abbrev pub ranks : Bimatrix → Bimatrix
 ranks = both ranked
 
+-- each number passes the test with every later one
+abbrev pub pairwise : (ℕ → ℕ → Bool) → List ℕ → Bool
+pairwise test [] = true
+pairwise test (x ∷ xs) = all (test x) xs && pairwise test xs
+
 -- no two of the numbers are equal
 unfoldable pub different : List ℕ → Bool
-different [] = true
-different (x ∷ xs) = all (λ y. not (eqb x y)) xs && different xs
+different = pairwise (λ x y. not (eqb x y))
 
 -- strictly ranked, document 01's "four different order keys": no two of a player's four numbers are equal
 unfoldable pub strictlyRanked : Bimatrix → Bool

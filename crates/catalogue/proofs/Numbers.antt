@@ -1,20 +1,20 @@
 -- What numbers mean: which tables have one (`numbered`, `not-numbered`), and which have the same (`same-number`, and `same-game-number` in
 -- any list that has every least key). Ranks are by the order key (`digit-law`, `strict-law`, `zeros-tie`). Assumes nothing.
 use mathlib.Core.Path.{_≡_, refl, sym, ap, ap₂, subst, _∙_}
-use mathlib.Core.Bool.{Bool, true, false, cond, not, _&&_}
+use mathlib.Core.Bool.{Bool, true, false, cond, _&&_}
 use mathlib.Core.List.{List, [], _∷_, map, List·Memᴰ·head as here, List·Memᴰ·tail as there, List·Memᴰ·not-nil as not-in-nil, List·Memᴰ·cases-cons as in-cons, Memᴰ·map as to-map, Memᴰ·of-map as of-map}
 use mathlib.Core.Logic.{_↔_, _≢_, ⊎-elim}
 use mathlib.Core.Option.{none, some}
 use Prim.Native.Nat.{ℕ, zero, suc, _<_}
 use native.Mathlib.Omega.{arith}
-use lib.Dec.{T, eqb, ltb}
+use lib.Dec.{T, ltb}
 use lib.ListN.{length, getD}
 use lib.Ieee.{Float, fin, binary64, fits}
 use lib.IntN.{ℤ, pos}
 use lib.Signed.{ltZ}
-use Rattle.game.specs.Finite.{_∈_, all, filter, Sorted}
+use Rattle.game.specs.Finite.{_∈_, filter, Sorted}
 use Rattle.game.specs.Game.{Game, Profile, profiles}
-use Rattle.game.proofs.Finite.{and-T, no-T, eqb-T, all-T, filter-cong, test-true, test-false}
+use Rattle.game.proofs.Finite.{and-T, filter-cong, test-true, test-false}
 use Rattle.game.proofs.Game.{profiles-law, profiles-once}
 use Rattle.refusal.specs.Refusal.{Refusal, numberOf}
 use Rattle.refusal.specs.Told.{values, unless, optionUsize}
@@ -38,6 +38,7 @@ use Rattle.bimatrix.specs.Meaning.{Swapped}
 use Rattle.catalogue.specs.Meaning.{LeastKey, Strict, keyRank, DifferentKeys, StrictlyRanked}
 use Rattle.catalogue.specs.Answers.{twoByTwo, gameNumber, numberAnswer, toldNumber}
 use Rattle.catalogue.proofs.Cells.{pair-law}
+use Rattle.bimatrix.proofs.Ranks.{different-law}
 use Rattle.bimatrix.proofs.Swaps.{order-law}
 use Rattle.catalogue.proofs.Rule.{catalogue-rule, least-swapped, catalogue-length}
 use Rattle.catalogue.proofs.Places.{placed, same-place}
@@ -69,29 +70,19 @@ same-game-number ks full g h s t =
 -- ---- order keys
 
 -- of a list that has each element once: no two of the numbers f x are equal exactly where f differs at any two elements
-different-map : (f : List ℕ → ℕ) (xs : List (List ℕ)) → Sorted (λ x y. x ≢ y) xs
-    → T (different (map f xs)) ↔ ((x y : List ℕ) → x ∈ xs → y ∈ xs → x ≢ y → f x ≢ f y)
-unfolding different
-different-map f [] s = (λ _ x y h. absurd (not-in-nil h), λ _. tt)
-different-map f (x ∷ xs) s =
-    let test : ℕ → Bool = λ z. not (eqb (f x) z) in
-    let (to, from) = and-T (all test (map f xs)) (different (map f xs)) in
-    let (down, up) = different-map f xs (s .1) in
-    let apart : T (all test (map f xs)) → (y : List ℕ) → y ∈ xs → f x ≢ f y =
-    λ t y k e. no-T (eqb (f x) (f y)) .0 (all-T test (map f xs) .0 t (f y) (to-map f k)) (eqb-T (f x) (f y) .1 e)
-    in (
+apart-map : (f : List ℕ → ℕ) (xs : List (List ℕ)) → Sorted (λ x y. x ≢ y) xs
+    → Sorted (λ m n. m ≢ n) (map f xs) ↔ ((x y : List ℕ) → x ∈ xs → y ∈ xs → x ≢ y → f x ≢ f y)
+apart-map f [] s = (λ _ x y h. absurd (not-in-nil h), λ _. tt)
+apart-map f (x ∷ xs) s =
+    let (down, up) = apart-map f xs (s .1) in (
       λ t a b h k n.
           ⊎-elim
-          (λ (e : a ≡ x). ⊎-elim (λ (d : b ≡ x). absurd (n (e ∙ sym d))) (λ l. rw e (apart (to t .0) b l)) (in-cons k))
-          (λ i. ⊎-elim (λ (d : b ≡ x). rw d (λ q. apart (to t .0) a i (sym q))) (λ l. down (to t .1) a b i l n) (in-cons k)) (in-cons h),
-      λ h.
-          from (
-            all-T test (map f xs) .1
-                (λ z k.
-                let (y, l, e) = of-map f xs k in
-                rw (← e) (no-T (eqb (f x) (f y)) .1 (λ q. h x y (here refl) (there l) (s .0 y l) (eqb-T (f x) (f y) .0 q)))),
-            up (λ a b i j. h a b (there i) (there j)),
-          ),
+          (λ (e : a ≡ x). ⊎-elim (λ (d : b ≡ x). absurd (n (e ∙ sym d))) (λ l. rw e (t .0 (f b) (to-map f l))) (in-cons k))
+          (λ i. ⊎-elim (λ (d : b ≡ x). rw d (λ q. t .0 (f a) (to-map f i) (sym q))) (λ l. down (t .1) a b i l n) (in-cons k)) (in-cons h),
+      λ h. (
+        λ z k. let (y, l, e) = of-map f xs k in rw (← e) (h x y (here refl) (there l) (s .0 y l)),
+        up (λ a b i j. h a b (there i) (there j)),
+      ),
     )
 
 passed-map : (f : List ℕ → ℕ) (test : ℕ → Bool) (xs : List (List ℕ)) → length (filter test (map f xs)) ≡ length (filter (λ x. test (f x)) xs)
@@ -149,13 +140,15 @@ module _ (payoffs : List Float) (d : Doubles payoffs) where
   apart-law : (p : ℕ) → T (different (inOrder (matrixOf (payAt p)))) ↔ Apart p
   unfolding Apart
   apart-law p =
-      let (to, from) = different-map (payAt p) (profiles pair) (profiles-once pair) in
+      let (to, from) = apart-map (payAt p) (profiles pair) (profiles-once pair) in
+      let (in-order, of-order) = different-law (inOrder (matrixOf (payAt p))) in
       let law = profiles-law pair in
+      let All : List ℕ → Type 0 = Sorted (λ m n. m ≢ n) in
       let same : (x y : List ℕ) → (keyAt p x ≡ keyAt p y) ↔ (payAt p x ≡ payAt p y) =
       λ x y. rank-eq (payoffAt pair payoffs p x) (payoffAt pair payoffs p y) (fits-at p x) (fits-at p y)
       in (
-        λ t x y k l n e. to (rw (← order-law (payAt p)) t) x y (law .members x .1 k) (law .members y .1 l) n (same x y .0 e),
-        λ h. rw order-law (from (λ x y k l n e. h x y (law .members x .0 k) (law .members y .0 l) n (same x y .1 e))),
+        λ t x y k l n e. to (subst All (order-law (payAt p)) (in-order t)) x y (law .members x .1 k) (law .members y .1 l) n (same x y .0 e),
+        λ h. of-order (subst All (sym (order-law (payAt p))) (from (λ x y k l n e. h x y (law .members x .0 k) (law .members y .0 l) n (same x y .1 e)))),
       )
 
   -- both players'

@@ -2,30 +2,26 @@
 -- (`rule-law`), for any list of keys. Equal least keys are those of swaps: a table's four swaps have the same least key, and the digits of
 -- the least key are one of the four. Assumes nothing.
 use mathlib.Core.Path.{_≡_, refl, sym, ap, _∙_}
-use mathlib.Core.Bool.{Bool, true, not, _&&_}
-use mathlib.Core.List.{List, [], _∷_, flatMap}
+use mathlib.Core.Bool.{Bool, not, _&&_}
+use mathlib.Core.List.{List, flatMap}
 use mathlib.Core.Logic.{_↔_}
 use Prim.Native.Nat.{ℕ, _<_}
 use lib.Dec.{T, ltb, eqb}
 use lib.ListN.{length}
-use Rattle.game.specs.Finite.{_∈_, all, filter, empty, Sorted, Lists}
+use Rattle.game.specs.Finite.{_∈_, all, filter, empty, Lists}
 use Rattle.game.specs.Game.{profiles}
 use Rattle.game.proofs.Finite.{and-T, ltb-T, eqb-T, all-T, some-mem, filter-mem}
 use Rattle.bimatrix.specs.declared.Bimatrix.{Bimatrix}
 use Rattle.bimatrix.specs.Matrices.{swaps}
-use Rattle.bimatrix.specs.Keys.{rankAmong, ranks, different, strictlyRanked, key, leastKey}
+use Rattle.bimatrix.specs.Keys.{rankAmong, ranks, pairwise, different, strictlyRanked, key, leastKey}
 use Rattle.catalogue.specs.Catalogue.{orders, rankings, catalogue}
 use Rattle.bimatrix.specs.Meaning.{Swapped}
 use Rattle.catalogue.specs.Meaning.{LeastKey, keyDigits}
+use Rattle.bimatrix.proofs.Ranks.{pairwise-law}
 use Rattle.bimatrix.proofs.Swaps.{swap-back, swap-again}
 use Rattle.catalogue.proofs.Rankings.{same, same-law, ranks-listed}
 
 -- ---- the test
-
--- each is less than every later one
-ascending : List ℕ → Bool
-ascending [] = true
-ascending (x ∷ xs) = all (λ y. ltb x y) xs && ascending xs
 
 -- whether an element passes
 module _ {A : Type 0} where
@@ -49,17 +45,11 @@ tableTest ks r =
     && any (eqb (leastKey r)) ks
     && (all (λ q. eqb (leastKey r) (leastKey q)) (swaps r) && any (same (keyDigits (leastKey r))) (swaps r))
 
+-- ascending, each key passing its test, and each table
 isCatalogue : List ℕ → Bool
-isCatalogue ks = ascending ks && all keyTest ks && all (tableTest ks) rankings
+isCatalogue ks = pairwise ltb ks && all keyTest ks && all (tableTest ks) rankings
 
 -- ---- the law
-
-ascending-sorted : (ks : List ℕ) → T (ascending ks) → Sorted _<_ ks
-unfolding ascending
-ascending-sorted [] h = tt
-ascending-sorted (x ∷ xs) h =
-    let (a, b) = and-T (all (λ y. ltb x y) xs) (ascending xs) .0 h in
-    (λ y k. ltb-T x y .0 (all-T (λ z. ltb x z) xs .0 a y k), ascending-sorted xs b)
 
 -- what the test means for a list of keys
 record Rule (ks : List ℕ) : Type 0 where
@@ -68,11 +58,11 @@ record Rule (ks : List ℕ) : Type 0 where
   swapped : (b c : Bimatrix) → T (strictlyRanked b) → T (strictlyRanked c) → (leastKey (ranks b) ≡ leastKey (ranks c)) ↔ Swapped (ranks b) (ranks c)
 
 module _ (ks : List ℕ) (h : T (isCatalogue ks)) where
-  parts : T (ascending ks) × T (all keyTest ks) × T (all (tableTest ks) rankings)
+  parts : T (pairwise ltb ks) × T (all keyTest ks) × T (all (tableTest ks) rankings)
   unfolding isCatalogue
   parts =
-      let (l, c) = and-T (ascending ks && all keyTest ks) (all (tableTest ks) rankings) .0 h in
-      let (a, b) = and-T (ascending ks) (all keyTest ks) .0 l in
+      let (l, c) = and-T (pairwise ltb ks && all keyTest ks) (all (tableTest ks) rankings) .0 h in
+      let (a, b) = and-T (pairwise ltb ks) (all keyTest ks) .0 l in
       (a, b, c)
 
   key-least : (k : ℕ) → k ∈ ks → LeastKey k
@@ -116,7 +106,7 @@ module _ (ks : List ℕ) (h : T (isCatalogue ks)) where
         rule =
             record {
               members = λ k. (key-least k, λ (b, t, e). rw (← e) (listed (ranks b) (ranks-listed b t)));
-              sorted = ascending-sorted ks (parts .0);
+              sorted = pairwise-law ltb _<_ ltb-T ks .0 (parts .0);
             };
         swapped = λ b c t u. (
           λ e.
@@ -129,7 +119,7 @@ module _ (ks : List ℕ) (h : T (isCatalogue ks)) where
 -- ---- the catalogue passes
 
 passes : T (isCatalogue catalogue)
-unfolding flatMap profiles rankAmong different strictlyRanked key leastKey orders rankings catalogue keyDigits ascending keyTest tableTest isCatalogue
+unfolding flatMap profiles rankAmong different strictlyRanked key leastKey orders rankings catalogue keyDigits keyTest tableTest isCatalogue
 passes = tt
 
 -- the digits of a table's key are its ranks
