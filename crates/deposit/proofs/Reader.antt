@@ -19,7 +19,7 @@ use Rattle.table.specs.Table.{cells}
 use Rattle.table.specs.Outputs.{over}
 use Rattle.words.specs.Words.{wordsOf}
 use Rattle.words.specs.Faults.{lengthFault, closingFault}
-use Rattle.deposit.specs.Deposit.{playersIn, countsIn, payoffsIn, openingFault, countFault, cellFault, wordsFault, readRefusal, tableOf}
+use Rattle.deposit.specs.Deposit.{playersIn, countsIn, payoffsIn, openingFault, countFault, cellFault, headFault, restFault, wordsFault, readRefusal, tableOf}
 use Rattle.deposit.specs.Answers.{readAnswer, readCounts, readPayoffs}
 use Rattle.deposit.proofs.Tables.{counts-length}
 
@@ -42,14 +42,11 @@ module _ (bytes : List ℕ) where
     room = when (ltb a (playersIn (wordsOf bytes))) OutputTooShort then when (ltb b (cells (countsIn (wordsOf bytes)))) OutputTooShort then rest
 
     pub stages : readRefusal bytes a b ≡ (opened then counted then room)
-    unfolding readRefusal wordsFault
+    unfolding readRefusal wordsFault headFault restFault
     stages =
         let ws = wordsOf bytes in
-        let counts = each (countFault ws) (below (playersIn ws)) in
-        let many = when (ltb maxCells (cells (countsIn ws))) TooManyCells in
-        sym
-        (ap (λ (r : Refusal). opened then r) (then-assoc counts many room)
-        ∙ then-assoc (lengthFault bytes) (openingFault ws) (counts then many then room))
+        ap (λ (r : Refusal). lengthFault bytes then r) (then-assoc (openingFault ws) counted room)
+        ∙ sym (then-assoc (lengthFault bytes) (openingFault ws) (counted then room))
 
     pub bad-opening : (e : NormalFormError) → opened ≡ some e → readRefusal bytes a b ≡ some e
     bad-opening e h = stages ∙ rw h refl

@@ -79,17 +79,18 @@ module _ (ws : List ℕ) where
       then dueFault ws (place + 2) 2
       then when (not (finite (payoffIn place))) NonFiniteUtility
 
-  -- left to right: the opening word, the counts, then 5, then 13 when either output is short, the cells, the closing word
+  -- the opening word, the counts, then cells over a limit (5)
+  unfoldable pub headFault : ℕ → Refusal
+  headFault limit = openingFault then each countFault (below playersIn) then when (ltb limit (cells countsIn)) TooManyCells
+
+  -- the cells, the closing word
+  unfoldable pub restFault : Refusal
+  restFault = let n = cells countsIn in each (λ i. cellFault (cellPlace i)) (below n) then closingFault ws (cellPlace n)
+
+  -- left to right: 13, when either output is short, follows 5
   unfoldable pub wordsFault : ℕ → ℕ → Refusal
   wordsFault countsRoom payoffsRoom =
-      let n = cells countsIn in
-      openingFault
-      then each countFault (below playersIn)
-      then when (ltb maxCells n) TooManyCells
-      then shortRefusal playersIn countsRoom
-      then shortRefusal n payoffsRoom
-      then each (λ i. cellFault (cellPlace i)) (below n)
-      then closingFault ws (cellPlace n)
+      headFault maxCells then shortRefusal playersIn countsRoom then shortRefusal (cells countsIn) payoffsRoom then restFault
 
 -- the length first, then the words
 unfoldable pub readRefusal : List ℕ → ℕ → ℕ → Refusal
