@@ -4,9 +4,10 @@ use mathlib.Core.Bool.{Bool, true, false, not, cond}
 use Prim.Native.Nat.{ℕ, zero, suc, _+_, _*_, _/_, _%_, _^_, _<_}
 use native.Mathlib.Omega.{arith}
 use lib.Dec.{T, eqb}
-use lib.Ieee.{Float, nan, inf, fin, binary64, odd, ofFields, ofBits, toBits, isNan, nanBits}
+use lib.Ieee.{nan, inf, binary64, odd, ofFields, ofBits, toBits, nanBits}
 use lib.Ieee.Bits.{toBits-ofBits, nanBits-is}
 use Rattle.utility.specs.Order.{finite}
+use Rattle.utility.proofs.Laws.{finite-no-nan}
 
 odd-finite : (d : ℕ) (s : Bool) (q k l : ℕ) → finite (odd d s q k l) ≡ true
 unfolding odd finite
@@ -33,14 +34,7 @@ pub bits-finite : (b : ℕ) → finite (ofBits binary64 b) ≡ not (eqb (b % 2 ^
 unfolding ofBits
 bits-finite b = fields-finite _ (b % 2 ^ 63 / 2 ^ 52) (b % 2 ^ 52)
 
--- a finite f64 is no NaN
-pub finite-no-nan : (x : Float) → T (finite x) → T (not (isNan x))
-unfolding finite isNan
-finite-no-nan nan h = absurd h
-finite-no-nan (inf s) h = absurd h
-finite-no-nan (fin s m e) h = tt
-
--- so these are no NaN's
+-- bits of a finite f64 are no NaN's
 pub bits-no-nan : (b : ℕ) → T (finite (ofBits binary64 b)) → T (not (nanBits binary64 b))
 bits-no-nan b h = subst (λ (t : Bool). T (not t)) (sym (nanBits-is binary64 b)) (finite-no-nan (ofBits binary64 b) h)
 

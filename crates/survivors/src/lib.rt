@@ -170,9 +170,9 @@ fn without_mark(survivors: Survivors, player: usize, strategy: usize) -> Survivo
     left
 }
 
-// A strike on a table without refusals and with `profiles` profiles: the lowest dominator beside the survivors without that one mark, or 8,
-// 14 or 15 beside the survivors unchanged.
-fn strike_marked(
+// A strike that checks neither the table nor the survivors: the lowest dominator beside the survivors without that one mark, or 8, 14 or 15
+// beside the survivors unchanged. The caller proves that the table has none of refusals 1 to 7, and that it has `profiles` profiles.
+pub fn strike_marked(
     counts: &[usize],
     payoffs: &[f64],
     profiles: usize,

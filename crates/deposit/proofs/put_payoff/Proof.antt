@@ -7,10 +7,10 @@ use lib.Dec.{T}
 use lib.ListN.{length}
 use lib.Ieee.Bits.{toBits-lt}
 use lib.Ieee.{binary64, toBits}
+use Rattle.utility.proofs.Laws.{finite-no-nan}
 use Rattle.words.specs.Words.{word}
 use Rattle.deposit.specs.Deposit.{payoffWords}
 use Rattle.deposit.specs.Put.{wordsPut}
-use Rattle.deposit.proofs.Bits.{finite-no-nan}
 use Rattle.deposit.proofs.Puts.{put-length, put-more}
 use Rattle.deposit.proofs.put_payoff.Statement.{statement}
 use Rattle.deposit.proofs.put_payoff.Tie as tie

@@ -1,0 +1,58 @@
+-- Lists put one after the other are one list put. Assumes nothing.
+use mathlib.Core.Path.{_≡_, refl, sym, ap, _∙_}
+use mathlib.Core.List.{List, [], _∷_, _++_}
+use mathlib.Core.Logic.{⊎-elim}
+use Prim.Native.Nat.{ℕ, suc, _+_, _≤_, min}
+use native.Mathlib.Omega.{arith}
+use lib.ListN.{length, set, drop, length-append}
+use lib.Seq.{sets, length-sets, set-out, sets-eq}
+use Rattle.game.proofs.Finite.{le-or-lt}
+use Rattle.outputs.specs.Put.{past}
+
+module _ {A : Type 0} where
+  -- nothing is stored past the end
+  pub sets-out : (old : List A) (at : ℕ) (xs : List A) → length old ≤ at → sets old at xs ≡ old
+  sets-out old at [] h = refl
+  sets-out old at (x ∷ xs) h =
+      let e = set-out old at x h in
+      ap (λ (l : List A). sets l (suc at) xs) e ∙ sets-out old (suc at) xs (omega (arith, h))
+
+  -- an element at a place past the end
+  pub past-end : (old : List A) (at : ℕ) (x : A) → length old ≤ at → (length old ≡ past old at (x ∷ [])) × (old ≡ set old at x)
+  past-end old at x h = (omega (arith, h), sym (set-out old at x h))
+
+  sets-append : (old : List A) (at : ℕ) (xs ys : List A) → sets (sets old at xs) (at + length xs) ys ≡ sets old at (xs ++ ys)
+  sets-append old at [] ys = ap (λ (k : ℕ). sets old k ys) (omega arith)
+  sets-append old at (x ∷ xs) ys =
+      let e : at + length (x ∷ xs) ≡ suc at + length xs = omega arith in
+      ap (λ (k : ℕ). sets (sets (set old at x) (suc at) xs) k ys) e ∙ sets-append (set old at x) (suc at) xs ys
+
+  module _ (old : List A) (at : ℕ) (xs ys : List A) where
+    pub sets-more : sets (sets old at xs) (past old at xs) ys ≡ sets old at (xs ++ ys)
+    sets-more =
+        ⊎-elim
+        (λ (h : at + length xs ≤ length old).
+        let e : past old at xs ≡ at + length xs = omega (arith, h) in ap (λ (k : ℕ). sets (sets old at xs) k ys) e ∙ sets-append old at xs ys)
+        (λ h.
+        let e : past old at xs ≡ length old = omega (arith, h) in
+        let n = length-sets old at xs in
+        sets-out (sets old at xs) (past old at xs) ys (omega (arith, e, n))
+        ∙ sym (sets-out (sets old at xs) (at + length xs) ys (omega (arith, h, n)))
+        ∙ sets-append old at xs ys)
+        (le-or-lt (at + length xs) (length old))
+
+    pub past-more : past (sets old at xs) (past old at xs) ys ≡ past old at (xs ++ ys)
+    past-more = let n = length-sets old at xs in let m = length-append xs ys in omega (arith, n, m)
+
+  -- nothing put
+  pub past-none : (old : List A) (at : ℕ) → at ≤ length old → past old at [] ≡ at
+  past-none old at h = omega (arith, h)
+
+  -- where there is room for all
+  pub past-all : (old xs : List A) → length xs ≤ length old → past old 0 xs ≡ length xs
+  past-all old xs h = omega (arith, h)
+
+  pub sets-all : (old xs : List A) → length xs ≤ length old → sets old 0 xs ≡ xs ++ drop (length xs) old
+  sets-all old xs h =
+      let e : 0 + length xs ≡ length xs = omega arith in
+      sets-eq xs old 0 (omega (arith, h)) ∙ ap (λ (k : ℕ). xs ++ drop k old) e

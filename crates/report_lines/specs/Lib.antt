@@ -1,0 +1,2 @@
+-- The definitions of this crate: the lines of the report's two lists.
+pub mod Lines

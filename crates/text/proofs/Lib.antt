@@ -1,0 +1,4 @@
+-- The proofs of this crate that are not of one function.
+pub mod Puts
+pub mod Digits
+pub mod Lines
