@@ -6,6 +6,7 @@ use crate::catalogue;
 use crate::deposit::{self, Deposits};
 use crate::document::{self, Ground, CELLS, PLAYERS, STRATEGIES};
 use crate::library::{self, Answer, Bits};
+use crate::report::{self, Reports};
 use crate::rust::{self, Judged};
 use crate::solvers;
 use crate::steps;
@@ -56,6 +57,7 @@ pub fn compare() {
     report(solvers.equilibria, &[0, 1, 3, 6, 7], &lists);
     report(solvers.dominated, &[0, 1, 3, 6, 7, 8], &lists);
     let candidates = candidates::candidates();
+    let reports = report::reports();
     let (strikes, deposits, catalogue) = other.join().unwrap();
     strike_calls(strikes, &mut report);
     let classes =
@@ -73,6 +75,18 @@ pub fn compare() {
     catalogue.report_numbers();
     let titles: Vec<u32> = (0..catalogue::TITLES.len() as u32).collect();
     report(catalogue.number, &[], &[(Judge::Unasked, &titles)]);
+    match reports {
+        Some(reports) => {
+            reports.report_features();
+            let refused = Reports::refused();
+            report(
+                reports.report,
+                &[Reports::ACCEPTED],
+                &[(Judge::Unasked, &refused)],
+            );
+        }
+        None => report::left_out(),
+    }
     println!("compare: {with_rust} cases with the Rust and {with_document} with document 01 alone, 0 differences");
 }
 

@@ -159,6 +159,14 @@ fn said(keys: &[usize], counts: &[usize], payoffs: &[f64]) -> Said {
     }
 }
 
+/// The number of a table that has one.
+pub fn number(keys: &[usize], counts: &[usize], payoffs: &[f64]) -> Option<usize> {
+    match said(keys, counts, payoffs) {
+        Said::Number(number) => Some(number),
+        _ => None,
+    }
+}
+
 pub struct Catalogue {
     pub number: Tally,
     pub keys: Vec<usize>,

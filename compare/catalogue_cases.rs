@@ -116,17 +116,22 @@ fn every_ranked(catalogue: &mut Catalogue) -> Vec<(Ranks, usize)> {
 }
 
 /// The table's cells, from each player's payoffs at the four profiles.
-fn cells([first, second]: [[f64; 4]; 2]) -> Vec<f64> {
+pub fn cells([first, second]: [[f64; 4]; 2]) -> Vec<f64> {
     let pairs = std::iter::zip(first, second);
     pairs.flat_map(|(first, second)| [first, second]).collect()
 }
 
-/// A table with payoffs in the order of the ranks, and its swaps: each has the number of the ranks.
-fn drawn(catalogue: &mut Catalogue, random: &mut Random, ranks: &Ranks, number: usize) {
-    let payoffs = ranks.map(|own| {
+/// Payoffs in the order of the ranks.
+pub fn ranked(random: &mut Random, ranks: &Ranks) -> [[f64; 4]; 2] {
+    ranks.map(|own| {
         let ascending = ascending(random);
         own.map(|rank| ascending[rank])
-    });
+    })
+}
+
+/// A table with payoffs in the order of the ranks, and its swaps: each has the number of the ranks.
+fn drawn(catalogue: &mut Catalogue, random: &mut Random, ranks: &Ranks, number: usize) {
+    let payoffs = ranked(random, ranks);
     for swap in SWAPS {
         let payoffs = payoffs.map(|own| swap.map(|profile| own[profile]));
         sure(

@@ -149,7 +149,7 @@ fn first(faults: &[(bool, Ground)]) -> Result<(), Ground> {
 }
 
 /// What a file says into outputs of these lengths: P, the counts and the payoffs.
-fn read(bytes: &[u8], lengths: [usize; 2]) -> Result<Listing<Bits>, Ground> {
+pub fn read(bytes: &[u8], lengths: [usize; 2]) -> Result<Listing<Bits>, Ground> {
     first(&[(bytes.len() % 4 != 0, Ground::Length)])?;
     let words = bytes.chunks(4);
     let words = words.map(|word| u32::from_be_bytes(word.try_into().unwrap()));
@@ -298,7 +298,7 @@ fn answer<T>(judge: Result<T, u32>) -> Answer<T> {
 }
 
 /// An input's line: the words of a file, and the bytes of its last one.
-fn file(bytes: &[u8]) -> String {
+pub fn file(bytes: &[u8]) -> String {
     let mut line = String::from("  file");
     for word in bytes.chunks(4) {
         line.push(' ');

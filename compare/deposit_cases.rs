@@ -183,9 +183,16 @@ fn payload(random: &mut Random) -> u32 {
     random.number() as u32 % PAYLOADS
 }
 
+/// A file, how many elements its table needs of each output, and which of the outputs is to be too short for that.
+pub struct Faulty {
+    pub bytes: Vec<u8>,
+    needed: [usize; 2],
+    short: [bool; 2],
+}
+
 /// A file with one fault, or with none, and with any of those after it, as far as they go together: so each comes with
 /// later ones.
-fn faulty_file(deposits: &mut Deposits, random: &mut Random, first: Ground) {
+pub fn faulty(random: &mut Random, first: Ground) -> Faulty {
     let later = match random.below(3) {
         0 => 0,
         1 => random.word() & random.word(),
@@ -220,12 +227,20 @@ fn faulty_file(deposits: &mut Deposits, random: &mut Random, first: Ground) {
         }
     }
     let both = has(Ground::ShortBoth);
-    let shorts = [Ground::ShortCounts, Ground::ShortPayoffs].map(|ground| both || has(ground));
-    let room: Room = shorts.map(|short| match short {
+    Faulty {
+        bytes,
+        needed: [counts.len(), cells],
+        short: [Ground::ShortCounts, Ground::ShortPayoffs].map(|ground| both || has(ground)),
+    }
+}
+
+fn faulty_file(deposits: &mut Deposits, random: &mut Random, first: Ground) {
+    let faulty = faulty(random, first);
+    let room: Room = faulty.short.map(|short| match short {
         true => random.pick(&[-1, -1, EMPTY]),
         false => random.pick(&[0, 0, 1, 7]),
     });
-    deposits.read(&bytes, solvers::lengthened([counts.len(), cells], room));
+    deposits.read(&faulty.bytes, solvers::lengthened(faulty.needed, room));
 }
 
 /// The faults of words, of a file of so many players.

@@ -17,6 +17,8 @@ mod document;
 mod library;
 mod plain;
 mod record;
+mod report;
+mod report_cases;
 mod rust;
 mod solvers;
 mod steps;

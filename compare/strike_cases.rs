@@ -122,7 +122,7 @@ fn strategies(counts: &[usize]) -> Vec<[usize; 2]> {
 }
 
 /// A table with something to strike, with ties, or with nothing to strike.
-fn payoffs(random: &mut Random, counts: &[usize], turn: usize) -> Vec<f64> {
+pub fn payoffs(random: &mut Random, counts: &[usize], turn: usize) -> Vec<f64> {
     let mut payoffs = match turn % 3 {
         0 => return random.payoffs(counts),
         1 => cases::chain(counts),

@@ -1,0 +1,188 @@
+-- `report_table::put_equilibria` meets its contract: the outputs have room for every profile, so that the listing is not refused. Assumes nothing.
+use mathlib.Core.Path.{_≡_, refl, sym, ap, ap₂, _∙_, subst}
+use mathlib.Core.List.{List, [], _∷_, _++_, flatMap}
+use mathlib.Core.Option.{none}
+use Prim.Native.Nat.{ℕ, _*_, _≤_, _<_}
+use native.Mathlib.Omega.{arith}
+use borrow.Author.Needs.{needs}
+use lib.Dec.{T}
+use lib.ListN.{length, getD, drop, replicate, length-append}
+use lib.Ieee.{Float, nan, binary64, ofBits}
+use Rattle.game.specs.Game.{whole}
+use Rattle.refusal.specs.Refusal.{Refusal, numberOf, _then_}
+use Rattle.refusal.specs.Told.{values, toldUsize, unless}
+use Rattle.refusal.proofs.Told.{apart}
+use Rattle.utility.specs.Order.{finite}
+use Rattle.table.specs.Table.{tableGame, profilePart}
+use Rattle.table.specs.Checks.{tableRefusal}
+use Rattle.table.specs.Outputs.{roomRefusal, over}
+use Rattle.table.proofs.Checks.{table-law}
+use Rattle.table.proofs.Outputs.{room-fits, over-length}
+use Rattle.pure_nash.specs.Answers.{tableEquilibria, listingAnswer, equilibriaAnswer, equilibriaChoices, equilibriaUtilities}
+use Rattle.pure_nash.proofs.Listing.{listing-all}
+use Rattle.text.specs.Text.{decimal, line}
+use Rattle.text.proofs.Puts.{Puts, puts-more, puts-same, puts-length}
+use Rattle.report_lines.specs.Lines.{entryLines}
+use Rattle.report_table.specs.Report.{word, numberLine, equilibriumLine, equilibriaText}
+use Rattle.report_table.proofs.Lists.{begins-with, equilibria-fit, choices-length, utilities-length, utilities-finite, equilibria-lines}
+use Rattle.report_table.proofs.put_equilibria.Statement.{statement}
+use Rattle.report_table.proofs.put_equilibria.Tie as tie
+
+slice-aggregate-equilibria : tie.Need-slice-aggregate-equilibria
+slice-aggregate-equilibria c = search needs
+
+slice-aggregate-equilibria-2 : tie.Need-slice-aggregate-equilibria-2
+slice-aggregate-equilibria-2 c = search needs
+
+equilibria-requires : tie.Need-equilibria-requires
+equilibria-requires c κs = search needs
+
+enum-told : tie.Need-enum-told
+enum-told c = search needs
+
+enum-known-number : tie.Need-enum-known-number
+enum-known-number c = search needs
+
+slice-aggregate-put-count : tie.Need-slice-aggregate-put-count
+slice-aggregate-put-count c = search needs
+
+put-count-requires : tie.Need-put-count-requires
+put-count-requires c κs = search needs
+
+slice-aggregate-put-entries : tie.Need-slice-aggregate-put-entries
+slice-aggregate-put-entries c = search needs
+
+slice-aggregate-put-entries-2 : tie.Need-slice-aggregate-put-entries-2
+slice-aggregate-put-entries-2 c = search needs
+
+-- after the listing
+module _ (k : tie.After-equilibria) where
+  abbrev start : tie.Start
+  start = k .before .before .before .before .before .before
+
+  abbrev counts : List ℕ
+  counts = start .args .counts .now
+
+  abbrev payoffs : List Float
+  payoffs = start .args .payoffs .now
+
+  abbrev number : ℕ
+  number = length (tableEquilibria counts payoffs)
+
+  fits : number * length counts ≤ 2048
+  fits = omega (arith, equilibria-fit counts payoffs (start .pre .0), start .pre .1)
+
+  told : toldUsize (k .equilibria .result) ≡ values number
+  unfolding listingAnswer
+  told =
+      k .equilibria .ensures .0
+      ∙ ap₂ (λ (r s : Refusal). unless (r then s) number) (table-law counts payoffs .1 (start .pre .0)) (room-fits (number * length counts) 2048 2048 fits fits)
+
+returns : tie.Need-returns
+returns c =
+    let k = c .before .before .before .before in
+    absurd (apart (number k) (numberOf (c .enum-told .given .0 .0)) (sym (told k) ∙ ap toldUsize (c .enum-told .given .1)))
+
+-- the arm with a number
+module _ (n : tie.After-number) where
+  abbrev call : tie.After-equilibria
+  call = n .before .before .before .before
+
+  abbrev es : List (List ℕ)
+  es = tableEquilibria (counts call) (payoffs call)
+
+  abbrev choices : List ℕ
+  choices = call .equilibria .last .1 .1 .0
+
+  abbrev utilities : List Float
+  utilities = call .equilibria .last .1 .1 .1 .0
+
+  listed :
+      (n .number .given .0 .0 ≡ number call)
+      × (equilibriaChoices (counts call) (payoffs call) 2048 2048 ≡ flatMap (λ x. x) es)
+      × (equilibriaUtilities (counts call) (payoffs call) 2048 2048 ≡ flatMap (profilePart (counts call) (payoffs call)) es)
+  listed =
+      listing-all (counts call) (payoffs call) 2048 2048 (whole (tableGame (counts call) (payoffs call))) (tableRefusal (counts call) (payoffs call)) (n .number .given .0 .0)
+      (sym (ap toldUsize (n .number .given .1)) ∙ call .equilibria .ensures .0)
+
+  -- what the outputs hold: the listing, and what stood there
+  choices-are : (rest : List ℕ) × (choices ≡ flatMap (λ x. x) es ++ rest)
+  choices-are =
+      begins-with choices (replicate 2048 0) (equilibriaChoices (counts call) (payoffs call) 2048 2048) (flatMap (λ x. x) es) (call .equilibria .ensures .1 .0) (listed .1)
+
+  utilities-are : (rest : List Float) × (utilities ≡ flatMap (profilePart (counts call) (payoffs call)) es ++ rest)
+  utilities-are =
+      begins-with utilities (replicate 2048 (ofBits binary64 0)) (equilibriaUtilities (counts call) (payoffs call) 2048 2048)
+      (flatMap (profilePart (counts call) (payoffs call)) es) (call .equilibria .ensures .1 .1) (listed .2)
+
+  many : (number call * length (counts call) ≤ length choices) × (number call * length (counts call) ≤ length utilities)
+  many =
+      let t = start call .pre .0 in
+      let (cs, c) = choices-are in
+      let (us, u) = utilities-are in (
+        omega (arith, ap length c, length-append (flatMap (λ x. x) es) cs, choices-length (counts call) (payoffs call) t),
+        omega (arith, ap length u, length-append (flatMap (profilePart (counts call) (payoffs call)) es) us, utilities-length (counts call) (payoffs call) t),
+      )
+
+put-entries-requires : tie.Need-put-entries-requires
+put-entries-requires c κs =
+    let n = c .before .before .before .before .before .before .before .before .before in
+    let k = call n in
+    let t = start k .pre .0 in
+    let e = listed n .0 in
+    let a = start k .args in
+    let head = c .before .before .before .before .before in
+    let text = line (word "equilibria" ∷ decimal (n .number .given .0 .0) ∷ []) in
+    let finites : (i : ℕ) → i < n .number .given .0 .0 * length (counts k) → T (finite (getD (utilities n) i nan)) =
+    λ i l.
+    let (us, u) = utilities-are n in
+    let h : i < number k * length (counts k) = subst (λ (m : ℕ). i < m * length (counts k)) e l in
+    subst (λ (xs : List Float). T (finite (getD xs i nan))) (sym u) (utilities-finite (counts k) (payoffs k) t us i h) in (
+      t .shape .some,
+      (
+        omega (arith, head .put-count .ensures .0, puts-length (a .out .now) (a .at) text (head .put-count .ensures)),
+        ((rw e (many n .0), rw e (many n .1)), finites),
+      ),
+    )
+
+same-length : tie.Need-same-length
+same-length c = search needs
+
+returns-2 : tie.Need-returns-2
+unfolding equilibriaText numberLine
+returns-2 c =
+    let end = c .before .before in
+    let head = end .before .before .before .before .before .before in
+    let n = head .before .before .before .before in
+    let k = call n in
+    let a = start k .args in
+    let e = listed n .0 in
+    let one : ℕ → List ℕ = λ m. line (word "equilibria" ∷ decimal m ∷ []) in
+    let m = n .number .given .0 .0 in
+    let p = length (counts k) in
+    let (cs, c) = choices-are n in
+    let (us, u) = utilities-are n in
+    let lines-are : entryLines p m (choices n) (utilities n) ≡ flatMap (equilibriumLine (counts k) (payoffs k)) (es n) =
+    ap (λ (j : ℕ). entryLines p j (choices n) (utilities n)) e
+    ∙ ap₂ (λ (xs : List ℕ) (ys : List Float). entryLines p (number k) xs ys) c u
+    ∙ equilibria-lines (counts k) (payoffs k) (start k .pre .0) cs us in
+    puts-same (a .out .now) (a .at) (ap₂ (λ (xs ys : List ℕ). xs ++ ys) (ap one e) lines-are)
+    (puts-more (a .out .now) (a .at) (one m) (entryLines p m (choices n) (utilities n)) (head .put-count .ensures) (end .put-entries .ensures))
+
+pub put-equilibria-spec : {M : Type 1} → statement M
+put-equilibria-spec =
+    tie.close
+    (tie.spec
+    slice-aggregate-equilibria
+    slice-aggregate-equilibria-2
+    equilibria-requires
+    enum-told
+    enum-known-number
+    slice-aggregate-put-count
+    put-count-requires
+    slice-aggregate-put-entries
+    slice-aggregate-put-entries-2
+    put-entries-requires
+    returns
+    same-length
+    returns-2)

@@ -1,0 +1,96 @@
+-- `report_table::put_table` meets its contract: its parts one after the other. Assumes nothing.
+use mathlib.Core.List.{List, [], _∷_, _++_, map}
+use Prim.Native.Nat.{ℕ}
+use borrow.Author.Needs.{needs}
+use lib.ListN.{length}
+use lib.Ieee.{Float}
+use Rattle.table.specs.Table.{tableGame}
+use Rattle.catalogue.specs.Catalogue.{catalogue}
+use Rattle.catalogue.specs.Answers.{gameNumber}
+use Rattle.text.specs.Text.{decimal, line}
+use Rattle.text.proofs.Puts.{Puts, puts-more, puts-length}
+use Rattle.report_table.specs.Report.{word, numberLine, catalogueLine, equilibriaText, struckText, tableReport}
+use Rattle.report_table.proofs.put_table.Statement.{statement}
+use Rattle.report_table.proofs.put_table.Tie as tie
+
+slice-aggregate-put-count : tie.Need-slice-aggregate-put-count
+slice-aggregate-put-count c = search needs
+
+put-count-requires : tie.Need-put-count-requires
+put-count-requires c κs = search needs
+
+slice-aggregate-put-labelled : tie.Need-slice-aggregate-put-labelled
+slice-aggregate-put-labelled c = search needs
+
+put-labelled-requires : tie.Need-put-labelled-requires
+put-labelled-requires c κs = search needs
+
+put-equilibria-requires : tie.Need-put-equilibria-requires
+put-equilibria-requires c κs = search needs
+
+put-struck-requires : tie.Need-put-struck-requires
+put-struck-requires c κs = search needs
+
+put-number-requires : tie.Need-put-number-requires
+put-number-requires c κs = search needs
+
+module _ (c : tie.After-slice-known6) where
+  abbrev last : tie.After-put-number
+  last = c .before .before
+
+  abbrev struck : tie.After-put-struck
+  struck = last .before .before .before .before
+
+  abbrev listed : tie.After-put-equilibria
+  listed = struck .before .before .before .before
+
+  abbrev second : tie.After-put-labelled
+  second = listed .before .before .before .before
+
+  abbrev first : tie.After-put-count
+  first = second .before .before .before .before .before
+
+  abbrev start : tie.Start
+  start = first .before .before .before .before .before .before
+
+  abbrev old : List ℕ
+  old = start .args .out .now
+
+  abbrev counts : List ℕ
+  counts = start .args .counts .now
+
+  abbrev payoffs : List Float
+  payoffs = start .args .payoffs .now
+
+  put-all : Puts old 0 (tableReport counts payoffs) (last .put-number .result) (last .put-number .last .0)
+  unfolding tableReport numberLine
+  put-all =
+      let a = line (word "players" ∷ decimal (length counts) ∷ []) in
+      let b = line (word "counts" ∷ map decimal counts) in
+      let e = equilibriaText counts payoffs in
+      let s = struckText counts payoffs in
+      puts-more old 0 (a ++ b ++ e ++ s) (catalogueLine (gameNumber catalogue (tableGame counts payoffs)))
+      (puts-more old 0 (a ++ b ++ e) s
+      (puts-more old 0 (a ++ b) e (puts-more old 0 a b (first .put-count .ensures) (second .put-labelled .ensures)) (listed .put-equilibria .ensures))
+      (struck .put-struck .ensures))
+      (last .put-number .ensures)
+
+same-length : tie.Need-same-length
+same-length c = puts-length (old c) 0 (tableReport (counts c) (payoffs c)) (put-all c)
+
+returns : tie.Need-returns
+returns c = put-all c
+
+pub put-table-spec : {M : Type 1} → statement M
+put-table-spec =
+    tie.close
+    (tie.spec
+    slice-aggregate-put-count
+    put-count-requires
+    slice-aggregate-put-labelled
+    put-labelled-requires
+    put-equilibria-requires
+    put-struck-requires
+    put-number-requires
+    same-length
+    returns)

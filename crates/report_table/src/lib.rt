@@ -1,0 +1,95 @@
+// The report on a table, put into a lent buffer byte for byte as specs/Report defines it.
+use catalogue::NumberResult;
+use refusal::UsizeOption;
+use refusal::UsizeResult;
+use report_input::MAX_REPORT_CELLS;
+use table::MAX_MARKS;
+ghost use mathlib.Core.Path.{_≡_};
+ghost use mathlib.Core.List.{[], _∷_};
+ghost use Prim.Native.Nat.{_≤_};
+ghost use lib.ListN.{length};
+ghost use lib.Seq.{sets};
+ghost use Rattle.table.specs.Table.{tableGame};
+ghost use Rattle.table.specs.Meaning.{Table};
+ghost use Rattle.catalogue.specs.Catalogue.{catalogue};
+ghost use Rattle.catalogue.specs.Answers.{gameNumber};
+ghost use Rattle.outputs.specs.Put.{past};
+ghost use Rattle.text.specs.Text.{decimal, line};
+ghost use Rattle.report_input.specs.Input.{maxReportCells};
+ghost use Rattle.report_table.specs.Report.{catalogueLine, equilibriaText, struckText, tableReport};
+
+// How many numbers a strike has: player, strategy, dominator.
+const STRIKE_NUMBERS: usize = 3;
+
+// The most numbers of strikes.
+const MOST_NUMBERS: usize = STRIKE_NUMBERS * MAX_MARKS;
+
+// Puts a line of a word and a number.
+pub fn put_count(out: &mut [u8], at: usize, name: &[u8], n: usize) -> usize
+    ensures { λ r. ⌜ r ≡ past (now (out .entry)) at (line (now (name .entry) ∷ decimal n ∷ [])) ⌝ }
+    ensures { λ _. ⌜ now (out .exit) ≡ sets (now (out .entry)) at (line (now (name .entry) ∷ decimal n ∷ [])) ⌝ }
+{
+    let numbers = [n];
+    text::put_labelled(out, at, name, &numbers)
+}
+
+// Puts the list of equilibria after its length. The output for choices and that for payoffs have room for every profile's.
+fn put_equilibria(out: &mut [u8], at: usize, counts: &[usize], payoffs: &[f64]) -> usize
+    requires { ⌜ Table (now counts) (now payoffs) ⌝ }
+    requires { ⌜ length (now payoffs) ≤ maxReportCells ⌝ }
+    ensures { λ r. ⌜ r ≡ past (now (out .entry)) at (equilibriaText (now (counts .entry)) (now (payoffs .entry))) ⌝ }
+    ensures { λ _. ⌜ now (out .exit) ≡ sets (now (out .entry)) at (equilibriaText (now (counts .entry)) (now (payoffs .entry))) ⌝ }
+{
+    let mut choices = [0usize; MAX_REPORT_CELLS];
+    let mut utilities = [0.0f64; MAX_REPORT_CELLS];
+    match pure_nash::equilibria(counts, payoffs, &mut choices, &mut utilities) {
+        UsizeResult::Err(_) => at,
+        UsizeResult::Ok(number) => {
+            let place = put_count(out, at, b"equilibria", number);
+            report_lines::put_entries(out, place, &choices, &utilities, counts.len(), number)
+        }
+    }
+}
+
+// Puts the list of strikes after its length.
+fn put_struck(out: &mut [u8], at: usize, counts: &[usize], payoffs: &[f64]) -> usize
+    requires { ⌜ Table (now counts) (now payoffs) ⌝ }
+    ensures { λ r. ⌜ r ≡ past (now (out .entry)) at (struckText (now (counts .entry)) (now (payoffs .entry))) ⌝ }
+    ensures { λ _. ⌜ now (out .exit) ≡ sets (now (out .entry)) at (struckText (now (counts .entry)) (now (payoffs .entry))) ⌝ }
+{
+    let mut struck = [0usize; MOST_NUMBERS];
+    let swept = sweeps::sweeps(counts, payoffs, &mut struck);
+    let number = swept.end / STRIKE_NUMBERS;
+    let place = put_count(out, at, b"struck", number);
+    report_lines::put_lines(out, place, &struck, STRIKE_NUMBERS, number)
+}
+
+// Puts the line of the catalogue's number.
+fn put_number(out: &mut [u8], at: usize, counts: &[usize], payoffs: &[f64]) -> usize
+    requires { ⌜ Table (now counts) (now payoffs) ⌝ }
+    ensures { λ r. ⌜ r ≡ past (now (out .entry)) at (catalogueLine (gameNumber catalogue (tableGame (now (counts .entry)) (now (payoffs .entry))))) ⌝ }
+    ensures { λ _. ⌜ now (out .exit) ≡ sets (now (out .entry)) at (catalogueLine (gameNumber catalogue (tableGame (now (counts .entry)) (now (payoffs .entry))))) ⌝ }
+{
+    match catalogue::number(counts, payoffs) {
+        NumberResult::Err(_) => at,
+        NumberResult::Ok(number) => match number {
+            UsizeOption::None => text::put(out, at, b"catalogue none\n"),
+            UsizeOption::Some(n) => put_count(out, at, b"catalogue", n),
+        },
+    }
+}
+
+// Puts the report on a table at the start of the output. The caller proves that the table has none of refusals 1 to 7, and no more cells than the
+// report takes.
+pub fn put_table(out: &mut [u8], counts: &[usize], payoffs: &[f64]) -> usize
+    requires { ⌜ Table (now counts) (now payoffs) ⌝ }
+    requires { ⌜ length (now payoffs) ≤ maxReportCells ⌝ }
+    ensures { λ r. ⌜ r ≡ past (now (out .entry)) 0 (tableReport (now (counts .entry)) (now (payoffs .entry))) ⌝ }
+    ensures { λ _. ⌜ now (out .exit) ≡ sets (now (out .entry)) 0 (tableReport (now (counts .entry)) (now (payoffs .entry))) ⌝ }
+{
+    let mut place = put_count(out, 0, b"players", counts.len());
+    place = text::put_labelled(out, place, b"counts", counts);
+    place = put_equilibria(out, place, counts, payoffs);
+    place = put_struck(out, place, counts, payoffs);
+    put_number(out, place, counts, payoffs)
+}
