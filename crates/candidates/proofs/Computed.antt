@@ -5,9 +5,12 @@ use mathlib.Core.List.{List, [], _∷_, flatMap}
 use lib.Ieee as Ieee
 use lib.Ieee.{Float, nan, inf, binary64, ofBits}
 use Rattle.utility.specs.Order.{finite}
-use Rattle.candidates.specs.Sums.{zero, one, roundedSum, distance}
-use Rattle.candidates.specs.Checks.{wellFormed, answerOf, gains, incentives, verdictOf, sumsToOne, distribution, claimed, minimax}
-use Rattle.candidates.specs.declared.Claim.{Claim}
+use Rattle.sums.specs.Sums.{zero, one, roundedSum, distance}
+use Rattle.candidate_input.specs.Input.{wellFormed, claimed}
+use Rattle.candidate_input.specs.declared.Claim.{Claim}
+use Rattle.gains.specs.Gains.{answerOf}
+use Rattle.mixed_strategies.specs.Distribution.{sumsToOne, distribution}
+use Rattle.candidates.specs.Checks.{gains, incentives, verdictOf, minimax}
 
 -- ---- some f64s by their bits
 

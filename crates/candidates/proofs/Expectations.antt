@@ -8,11 +8,11 @@ use lib.ListN.{getD}
 use lib.Ieee.{Float, nan, inf, binary64, neg, add, sub}
 use Rattle.game.specs.Finite.{all, below}
 use Rattle.utility.proofs.All.{all-cong}
-use Rattle.candidates.specs.Sums.{sumOfProducts}
+use Rattle.sums.specs.Sums.{sumOfProducts}
+use Rattle.candidate_input.specs.declared.Claim.{Claim}
+use Rattle.mixed_strategies.specs.Inner.{between, within}
+use Rattle.mixed_strategies.proofs.Bounds.{no-high, no-low}
 use Rattle.candidates.specs.Checks.{column, row, columnHolds, rowHolds}
-use Rattle.candidates.specs.Inner.{between, within}
-use Rattle.candidates.specs.declared.Claim.{Claim}
-use Rattle.candidates.proofs.Floats.{no-high, no-low}
 use Rattle.candidates.proofs.Shape.{by-rows, by-columns}
 
 module _ (m n : ℕ) (payoffs p1 p2 : List Float) (claim : Claim) where

@@ -7,11 +7,14 @@ use Prim.Native.Nat.{ℕ}
 use lib.Ieee.{Float, inf}
 use Rattle.game.specs.Finite.{all, below}
 use Rattle.utility.specs.Order.{finite}
-use Rattle.candidates.specs.Sums.{zero}
-use Rattle.candidates.specs.Checks.{entry, gainsOf, greatest, wellFormed, answerOf, gains, incentives}
-use Rattle.candidates.specs.Inner.{strided, raiseAll}
-use Rattle.candidates.proofs.Answer.{answer-not-formed}
-use Rattle.candidates.proofs.Gains.{raise-append, raise-greatest}
+use Rattle.sums.specs.Sums.{zero}
+use Rattle.sums.specs.Inner.{strided}
+use Rattle.candidate_input.specs.Input.{wellFormed}
+use Rattle.gains.specs.Gains.{gainsOf, greatest, answerOf}
+use Rattle.gains.specs.Inner.{raiseAll}
+use Rattle.gains.proofs.Gains.{raise-append, raise-greatest}
+use Rattle.gains.proofs.Answer.{answer-not-formed}
+use Rattle.candidates.specs.Checks.{entry, gains, incentives}
 use Rattle.candidates.proofs.Shape.{by-rows, by-columns}
 
 module _ (m n : ℕ) (u1 u2 weights : List Float) where

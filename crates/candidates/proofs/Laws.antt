@@ -1,55 +1,23 @@
--- What the answer of the correlated check says: the gains are those of every change, of both players (`gains-of-law`, `gains-law`), the answer
--- is the greatest of them (`incentives-law`) or infinity (`not-finite`, `infinity-or`), and it is +0.0 or above (`at-least-zero`, `not-nan`,
--- `not-minus-zero`); on an infinite one the verdict is no (`infinite-verdict`). True by the laws of `Answer`. Assumes nothing.
-use mathlib.Core.Path.{_≡_, refl, sym, subst}
+-- What the answer of the correlated check says: the gains are those of every change, of both players (`gains-law`), the answer is the greatest
+-- of them (`incentives-law`) or infinity (`not-finite`, `infinity-or`), and it is +0.0 or above (`at-least-zero`, `not-nan`,
+-- `not-minus-zero`); on an infinite one the verdict is no (`infinite-verdict`). True by the laws of `gains`. Assumes nothing.
+use mathlib.Core.Path.{_≡_, refl}
 use mathlib.Core.Bool.{true, false, not, _&&_, and-false}
-use mathlib.Core.List.{List, map, Memᴰ·map as to-map, Memᴰ·of-map as of-map, List·Memᴰ·append-cases as in-append, Memᴰ·append-left as append-left, Memᴰ·append-right as append-right}
+use mathlib.Core.List.{List, List·Memᴰ·append-cases as in-append, Memᴰ·append-left as append-left, Memᴰ·append-right as append-right}
 use mathlib.Core.Logic.{_↔_, _⊎_, inl, inr, ⊎-elim}
 use Prim.Native.Nat.{ℕ}
-use lib.Dec.{T, eqb}
+use lib.Dec.{T}
 use lib.IntN.{pos}
-use lib.Ieee.{Float, nan, inf, fin, binary64, sub, mul, lt, le, fits}
-use Rattle.game.specs.Finite.{_∈_, below, filter}
-use Rattle.game.proofs.Finite.{no-T, eqb-T, below-mem, filter-mem, of-flatMap, to-flatMap}
+use lib.Ieee.{Float, nan, inf, fin, binary64, lt, le, fits}
+use Rattle.game.specs.Finite.{_∈_, below}
 use Rattle.utility.specs.Order.{finite}
-use Rattle.candidates.specs.Sums.{zero}
-use Rattle.candidates.specs.Checks.{entry, gain, gainsFrom, gainsOf, wellFormed, gains, incentives, tolerable, verdictOf}
-use Rattle.candidates.specs.Meaning.{Greatest, Gain}
-use Rattle.candidates.proofs.Sums.{sum-fits}
-use Rattle.candidates.proofs.Answer.{answer-law, answer-not-finite, answer-infinity-or, answer-at-least-zero, answer-not-nan, answer-not-minus-zero}
-
--- ---- the gains
-
-module _ {I : Type 0} (weight payoff : ℕ → I → Float) (others : List I) (count : ℕ) where
-  pub gains-of-law : (x : Float) → (x ∈ gainsOf weight payoff others count) ↔ Gain weight payoff others count x
-  gains-of-law x = (
-    λ h.
-        let (s, i, k) = of-flatMap (gainsFrom weight payoff others count) (below count) x h in
-        let (t, j, e) = of-map (gain weight payoff others s) (filter (λ t. not (eqb t s)) (below count)) k in
-        let (l, d) = filter-mem (λ t. not (eqb t s)) (below count) t .0 j in
-        record {
-          from = s;
-          to = t;
-          strategy = below-mem count s .0 i;
-          change = below-mem count t .0 l;
-          another = λ q. no-T (eqb t s) .0 d (eqb-T t s .1 q);
-          is = sym e;
-        },
-    λ r.
-        let s = r .from in
-        let t = r .to in
-        to-flatMap (gainsFrom weight payoff others count) (below count) s x (below-mem count s .1 (r .strategy))
-        (subst (λ (y : Float). y ∈ gainsFrom weight payoff others count s) (sym (r .is))
-        (to-map (gain weight payoff others s)
-        (filter-mem (λ t. not (eqb t s)) (below count) t .1 (below-mem count t .1 (r .change), no-T (eqb t s) .1 (λ q. r .another (eqb-T t s .0 q)))))),
-  )
-
-gain-fits : {I : Type 0} (weight payoff : ℕ → I → Float) (others : List I) (count : ℕ) (x : Float) → Gain weight payoff others count x → T (fits binary64 x)
-gain-fits weight payoff others count x g =
-    subst (λ (y : Float). T (fits binary64 y)) (sym (g .is))
-    (sum-fits (map (λ o. mul binary64 (weight (g .from) o) (sub binary64 (payoff (g .to) o) (payoff (g .from) o))) others))
-
--- ---- the answer
+use Rattle.sums.specs.Sums.{zero}
+use Rattle.candidate_input.specs.Input.{tolerable, wellFormed}
+use Rattle.gains.specs.Gains.{gainsOf}
+use Rattle.gains.specs.Meaning.{Greatest, Gain}
+use Rattle.gains.proofs.Answer.{answer-law, answer-not-finite, answer-infinity-or, answer-at-least-zero, answer-not-nan, answer-not-minus-zero}
+use Rattle.gains.proofs.Laws.{gains-of-law, gain-fits}
+use Rattle.candidates.specs.Checks.{entry, gains, incentives, verdictOf}
 
 -- no tolerance reaches infinity
 no-tolerance : (tolerance : Float) → (tolerable tolerance && not (lt tolerance (inf false))) ≡ false

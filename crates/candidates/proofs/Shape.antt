@@ -1,25 +1,14 @@
 -- Where the numbers of a table with m rows and n columns stand: by the strides of player 1 (`rows-span`,
 -- `by-rows`) and of player 2 (`columns-span`, `by-columns`). Assumes nothing.
 use mathlib.Core.Path.{_≡_, sym, ap, _∙_, subst, fun-ext}
-use mathlib.Core.Bool.{true}
 use mathlib.Core.List.{List}
-use Prim.Native.Nat.{ℕ, _+_, _*_, _≤_, _<_}
-use native.Mathlib.Nat.{le-trans, mul-le-mul-right, mul-le-mul-left, mul-one, add-comm}
+use Prim.Native.Nat.{ℕ, _+_, _*_, _<_}
+use native.Mathlib.Nat.{mul-one, add-comm}
 use lib.Arith.{digits-lt}
-use lib.Dec.{T}
 use lib.Ieee.{Float, nan}
 use lib.ListN.{length, getD}
-use Rattle.candidates.specs.Checks.{maxActions, sized, entry}
-use Rattle.candidates.specs.Meaning.{Sized}
-use Rattle.candidates.specs.Inner.{Spans, strided}
-use Rattle.candidates.proofs.Meaning.{sized-law}
-
-pub is-sized : (m n : ℕ) → sized m n ≡ true → Sized m n
-is-sized m n e = sized-law m n .0 (subst T (sym e) tt)
-
--- there are few numbers
-pub few-cells : {m n : ℕ} → Sized m n → m * n ≤ maxActions * maxActions
-few-cells {m} {n} r = le-trans (mul-le-mul-right n (r .few-rows)) (mul-le-mul-left maxActions (r .few-columns))
+use Rattle.sums.specs.Inner.{strided, Spans}
+use Rattle.candidates.specs.Checks.{entry}
 
 pub rows-span : (m n : ℕ) (table : List Float) → length table ≡ m * n → Spans table n 1 m n
 rows-span m n table e s o h k = subst (λ (i : ℕ). s * n + o * 1 < i) (sym e) (subst (λ (i : ℕ). s * n + i < m * n) (sym (mul-one o)) (digits-lt h k))

@@ -1,6 +1,3 @@
--- The definitions of this crate: sums in IEEE 754's operations, document 01's candidate checks with what they say, and what the inner functions
--- compute.
-pub mod Sums
+-- The definitions of this crate: document 01's candidate checks, and what they say.
 pub mod Checks
 pub mod Meaning
-pub mod Inner

@@ -5,11 +5,12 @@ use mathlib.Core.Bool.{Bool, true, false, true≢false}
 use mathlib.Core.List.{List, [], _∷_, map}
 use mathlib.Core.Logic.{_↔_, _⊎_, inl, inr}
 use mathlib.Core.Option.{none, some}
-use Prim.Native.Nat.{ℕ, zero, suc, _<_, zero-le, suc-le-suc}
+use Prim.Native.Nat.{ℕ, zero, suc, _≤_, _<_, zero-le, suc-le-suc}
 use native.Mathlib.Nat.{not-suc-le-zero, le-of-suc-le-suc}
 use native.Mathlib.Omega.{arith}
-use lib.ListN.{getD}
+use lib.ListN.{getD, List·getD-eq-default}
 use Rattle.game.specs.Finite.{below}
+use Rattle.game.proofs.Finite.{at-most}
 use Rattle.refusal.specs.Refusal.{Refusal, numberOf, when, _then_, each}
 use Rattle.refusal.specs.declared.NormalFormError.{NormalFormError}
 use Rattle.refusal.specs.declared.NormalFormError.the-variants.{NoPlayers, TooManyPlayers, NoStrategies, TooManyStrategies, TooManyCells, PayoffCount, NonFiniteUtility, InvalidPlayer, OpponentProfileCount, InvalidOpponentStrategy, ProfileCount, InvalidStrategy, OutputTooShort, NoSurvivingStrategy, NotDominated, ForeignSurvivors, MissingWord, WrongKind, WrongPayload, TrailingWord}
@@ -61,6 +62,14 @@ number-some e h =
     let is : NoPlayers ≡ e = sym (ap (λ (n : ℕ). getD (NoPlayers ∷ table) n NoPlayers) h) ∙ placed e in
     let one : 1 ≡ numberOf e = ap numberOf is in
     omega (arith, one)
+
+-- or over 20
+pub number-most : (e : NormalFormError) → numberOf e ≤ 20
+unfolding table
+number-most e =
+    at-most (numberOf e) 20 (λ (h : 20 < numberOf e).
+    let is : NoPlayers ≡ e = sym (List·getD-eq-default (NoPlayers ∷ table) NoPlayers {n = numberOf e} h) ∙ placed e in
+    omega (arith, h, ap numberOf is))
 
 -- ---- the order of refusals
 

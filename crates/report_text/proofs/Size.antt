@@ -12,9 +12,8 @@ use lib.Ieee.{Float, nan, binary64, toBits}
 use Rattle.game.specs.Finite.{_∈_, First}
 use Rattle.game.specs.Game.{Game}
 use Rattle.refusal.specs.Refusal.{Refusal, numberOf}
-use Rattle.refusal.specs.declared.NormalFormError.{NormalFormError}
-use Rattle.refusal.specs.declared.NormalFormError.the-variants.{NoPlayers, TooManyPlayers, NoStrategies, TooManyStrategies, TooManyCells, PayoffCount, NonFiniteUtility, InvalidPlayer, OpponentProfileCount, InvalidOpponentStrategy, ProfileCount, InvalidStrategy, OutputTooShort, NoSurvivingStrategy, NotDominated, ForeignSurvivors, MissingWord, WrongKind, WrongPayload, TrailingWord}
 use Rattle.refusal.specs.Told.{unless}
+use Rattle.refusal.proofs.Refusal.{number-most}
 use Rattle.table.specs.Limits.{maxStrategies, maxMarks}
 use Rattle.table.specs.Table.{profilePart, tableGame}
 use Rattle.table.specs.Meaning.{Table}
@@ -205,29 +204,6 @@ table-size counts payoffs t h =
       h,
     )
 
--- a refusal's number has at most two digits
-number-high : (e : NormalFormError) → numberOf e < 10 ^ 2
-number-high NoPlayers = omega arith
-number-high TooManyPlayers = omega arith
-number-high NoStrategies = omega arith
-number-high TooManyStrategies = omega arith
-number-high TooManyCells = omega arith
-number-high PayoffCount = omega arith
-number-high NonFiniteUtility = omega arith
-number-high InvalidPlayer = omega arith
-number-high OpponentProfileCount = omega arith
-number-high InvalidOpponentStrategy = omega arith
-number-high ProfileCount = omega arith
-number-high InvalidStrategy = omega arith
-number-high OutputTooShort = omega arith
-number-high NoSurvivingStrategy = omega arith
-number-high NotDominated = omega arith
-number-high ForeignSurvivors = omega arith
-number-high MissingWord = omega arith
-number-high WrongKind = omega arith
-number-high WrongPayload = omega arith
-number-high TrailingWord = omega arith
-
 pub report-size : (bytes : List ℕ) → Bytes bytes → length (report bytes) ≤ maxReportBytes
 unfolding report inputTable
 report-size bytes B = go (inputRefusal bytes) refl
@@ -237,4 +213,4 @@ report-size bytes B = go (inputRefusal bytes) refl
 
     go : (r : Refusal) → inputRefusal bytes ≡ r → length (toldReport (unless r (countsIn ws, payoffsIn ws))) ≤ maxReportBytes
     go none e = let (t, few) = input-accepted bytes B e in table-size (countsIn ws) (payoffsIn ws) t few
-    go (some r) e = omega (arith, number-short "refused" (numberOf r) 2 (omega arith) (number-high r))
+    go (some r) e = omega (arith, number-short "refused" (numberOf r) 2 (omega arith) (omega (arith, number-most r)))

@@ -7,10 +7,12 @@ use borrow.Author.Tests.{not-true, not-false}
 use lib.Dec.{T}
 use lib.Ieee.{Float}
 use Rattle.game.specs.Finite.{below}
-use Rattle.candidates.specs.Checks.{gainsOf, wellFormed}
-use Rattle.candidates.specs.Meaning.{WellFormed}
-use Rattle.candidates.specs.Inner.{strided, raiseAll}
-use Rattle.candidates.proofs.Meaning.{well-formed-law}
+use Rattle.sums.specs.Inner.{strided}
+use Rattle.candidate_input.specs.Input.{wellFormed}
+use Rattle.candidate_input.specs.Meaning.{WellFormed}
+use Rattle.candidate_input.proofs.Meaning.{well-formed-law}
+use Rattle.gains.specs.Gains.{gainsOf}
+use Rattle.gains.specs.Inner.{raiseAll}
 use Rattle.candidates.proofs.Shape.{rows-span, columns-span}
 use Rattle.candidates.proofs.Incentives.{not-formed, raised-is}
 use Rattle.candidates.proofs.verify_correlated_equilibrium_incentives.Statement.{statement}

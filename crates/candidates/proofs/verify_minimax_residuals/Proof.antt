@@ -10,10 +10,12 @@ use lib.Ieee.{Float, nan, binary64, neg, add, sub}
 use Rattle.game.specs.Finite.{all, below}
 use Rattle.utility.specs.Order.{finite}
 use Rattle.utility.proofs.All.{at-all}
-use Rattle.candidates.specs.Checks.{distribution, claimed, columnHolds, minimax}
-use Rattle.candidates.specs.Meaning.{Claimed}
-use Rattle.candidates.specs.Inner.{within}
-use Rattle.candidates.proofs.Meaning.{claimed-law}
+use Rattle.candidate_input.specs.Input.{claimed}
+use Rattle.candidate_input.specs.Meaning.{Claimed}
+use Rattle.candidate_input.proofs.Meaning.{claimed-law}
+use Rattle.mixed_strategies.specs.Distribution.{distribution}
+use Rattle.mixed_strategies.specs.Inner.{within}
+use Rattle.candidates.specs.Checks.{columnHolds, minimax}
 use Rattle.candidates.proofs.Shape.{rows-span, columns-span}
 use Rattle.candidates.proofs.Expectations.{columns-are, rows-are}
 use Rattle.candidates.proofs.verify_minimax_residuals.Statement.{statement}

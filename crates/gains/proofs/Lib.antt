@@ -1,0 +1,4 @@
+-- The laws of this crate's definitions, which its own proofs and later ones cite: `Answer` and `Laws` are for callers.
+pub mod Gains
+pub mod Answer
+pub mod Laws

@@ -1,0 +1,35 @@
+-- Document 01, "Candidate checks": the gains of a player who changes one strategy for another, and the greatest. Assumes nothing.
+use mathlib.Core.Bool.{Bool, false, cond, not, _&&_}
+use mathlib.Core.List.{List, [], _∷_, map, flatMap}
+use Prim.Native.Nat.{ℕ}
+use lib.Dec.{eqb}
+use lib.Ieee.{Float, inf, binary64, sub, lt}
+use Rattle.game.specs.Finite.{all, below, filter}
+use Rattle.utility.specs.Order.{finite}
+use Rattle.sums.specs.Sums.{zero, sumOfProducts}
+
+module _ {I : Type 0} (weight payoff : ℕ → I → Float) (others : List I) where
+  -- what a player gains by t in place of s: over the others' choices in their order, the weight of s times (payoff of t − payoff of s)
+  abbrev pub gain : ℕ → ℕ → Float
+  gain s t = sumOfProducts (weight s) (λ o. sub binary64 (payoff t o) (payoff s o)) others
+
+  -- the gains by each t ≠ s in place of s
+  abbrev pub gainsFrom : ℕ → ℕ → List Float
+  gainsFrom count s = map (gain s) (filter (λ t. not (eqb t s)) (below count))
+
+  -- the gains of a player with `count` strategies
+  abbrev pub gainsOf : ℕ → List Float
+  gainsOf count = flatMap (gainsFrom count) (below count)
+
+-- the greatest of a list and b
+abbrev pub greatestFrom : Float → List Float → Float
+greatestFrom b [] = b
+greatestFrom b (x ∷ xs) = greatestFrom (cond (lt b x) x b) xs
+
+-- the greatest of a list, or +0.0 when none is above 0
+abbrev pub greatest : List Float → Float
+greatest = greatestFrom zero
+
+-- infinity for what is not well formed and for a gain that isn't finite, else the greatest gain, or +0.0 when none is above 0
+unfoldable pub answerOf : Bool → List Float → Float
+answerOf formed gs = cond (formed && all finite gs) (greatest gs) (inf false)

@@ -1,0 +1,12 @@
+-- What the test of `Distribution` says of every number. Assumes nothing.
+use mathlib.Core.Path.{_≡_}
+use mathlib.Core.Bool.{false}
+use mathlib.Core.List.{List}
+use lib.Ieee.{Float, binary64, neg, sub, lt}
+use Rattle.sums.specs.Sums.{one, roundedSum, distance}
+use Rattle.candidate_input.specs.Meaning.{NoneBelow}
+
+-- a distribution up to the tolerance
+pub record Distribution (p : List Float) (tolerance : Float) : Type 0 where
+  pub entries : NoneBelow (neg tolerance) p
+  pub whole : lt tolerance (distance (sub binary64 (roundedSum p) one)) ≡ false
