@@ -18,20 +18,21 @@ use Rattle.refusal.specs.declared.NormalFormError.{NormalFormError}
 use Rattle.refusal.specs.declared.NormalFormError.the-variants.{NoPlayers, TooManyPlayers, NoStrategies, TooManyStrategies, TooManyCells, NonFiniteUtility, OutputTooShort, MissingWord, WrongKind, WrongPayload, TrailingWord}
 use Rattle.refusal.specs.Told.{Told, values, refused, unless, toldOf}
 use Rattle.refusal.proofs.Refusal.{some-none, then-none, then-assoc}
-use Rattle.refusal.proofs.Told.{told-of}
+use Rattle.refusal.proofs.Told.{told-of, told-values}
 use Rattle.table.specs.Limits.{maxPlayers, maxCells}
 use Rattle.table.specs.Table.{cells}
 use Rattle.table.specs.Checks.{countRefusal}
 use Rattle.table.specs.Outputs.{writtenOf, over}
-use Rattle.table.specs.Meaning.{Table}
+use Rattle.table.specs.Meaning.{Table, Doubles}
 use Rattle.words.specs.Words.{Bytes, wordsOf}
 use Rattle.words.specs.Faults.{lengthFault, dueFault, closingFault}
-use Rattle.deposit.specs.Deposit.{playersIn, countsIn, payoffsIn, cellPlace, openingFault, countFault, cellFault, headFault, restFault, wordsFault, readRefusal, tableOf}
+use Rattle.deposit.specs.Deposit.{deposit, playersIn, countsIn, payoffsIn, cellPlace, openingFault, countFault, cellFault, headFault, restFault, wordsFault, readRefusal, tableOf}
 use Rattle.deposit.specs.Answers.{readAnswer, readCounts, readPayoffs}
 use Rattle.deposit.proofs.Faults.{opening-law}
 use Rattle.deposit.proofs.Tables.{payoffs-length}
 use Rattle.deposit.proofs.Reader.{stages-none}
-use Rattle.deposit.proofs.Back.{table-read}
+use Rattle.deposit.proofs.Writer.{deposit-length}
+use Rattle.deposit.proofs.Back.{read-back, table-read}
 use Rattle.report_input.specs.Input.{maxReportCells, maxFileBytes, inputRefusal, inputTable}
 
 -- 5 in place of 13
@@ -182,6 +183,24 @@ input-accepted bytes B h = ⊎-elim go (λ (l : maxFileBytes < length bytes). ab
           table-read bytes B maxPlayers maxReportCells n,
           omega (arith, payoffs-length (wordsOf bytes), stages-none bytes maxPlayers maxReportCells n .3),
         )
+
+-- the file of every table of no more cells is accepted, and is that table's: the limit of bytes refuses none
+module _ (counts : List ℕ) (payoffs : List Float) (t : Table counts payoffs) (d : Doubles payoffs) (few : length payoffs ≤ maxReportCells) where
+  abbrev file : List ℕ
+  file = deposit counts payoffs
+
+  table-back : tableOf file maxPlayers maxReportCells ≡ values (counts, payoffs)
+  table-back =
+      read-back counts payoffs t d maxPlayers maxReportCells
+      ∙ ap₂ (λ (a b : Bool). unless (when a OutputTooShort then when b OutputTooShort) (counts, payoffs)) (le-ltb maxPlayers (length counts) (t .shape .few)) (le-ltb maxReportCells (length payoffs) few)
+
+  pub input-back : inputTable file ≡ values (counts, payoffs)
+  unfolding inputTable tableOf
+  input-back =
+      let short : length file ≤ maxFileBytes = omega (arith, deposit-length counts payoffs, t .shape .few, few) in
+      let e = told-values (readRefusal file maxPlayers maxReportCells) (countsIn (wordsOf file), payoffsIn (wordsOf file)) (counts, payoffs) (sym table-back) in
+      ap (λ (r : Refusal). unless r (countsIn (wordsOf file), payoffsIn (wordsOf file))) (input-read file short ∙ ap fives (e .0))
+      ∙ ap (λ (x : List ℕ × List Float). values x) (sym (e .1))
 
 -- ---- what is told and written
 
