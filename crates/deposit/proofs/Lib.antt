@@ -3,7 +3,6 @@ pub mod Bits
 pub mod Faults
 pub mod Tables
 pub mod Reader
-pub mod Puts
 pub mod Writer
 pub mod Places
 pub mod Back

@@ -13,8 +13,7 @@ use Rattle.words.specs.Words.{word, closed}
 use Rattle.words.proofs.Words.{closed-length, closed-before, closed-last}
 use Rattle.deposit.specs.Deposit.{payoffWords}
 use Rattle.deposit.specs.Meaning.{wordsBefore, Layout}
-use Rattle.deposit.proofs.Puts.{words-three}
-use Rattle.deposit.proofs.Writer.{body, body-length}
+use Rattle.deposit.proofs.Writer.{words-three, body, body-length}
 
 module _ (counts : List ℕ) (payoffs : List Float) where
   abbrev cs : List ℕ

@@ -1,13 +1,13 @@
--- The words of a table's file, put one after the other, are the file (`file-put`); how long it is (`deposit-length`); and what the writer answers and
--- leaves. Assumes nothing.
-use mathlib.Core.Path.{_≡_, refl, sym, ap, _∙_}
-use mathlib.Core.List.{List, [], _∷_, _++_, map, flatMap}
+-- How long a table's file is (`deposit-length`), and what the writer answers and leaves. Assumes nothing.
+use mathlib.Core.Path.{_≡_, refl, _∙_}
+use mathlib.Core.List.{List, _∷_, _++_, map, flatMap}
 use mathlib.Core.Option.{none, some}
 use Prim.Native.Nat.{ℕ, _+_, _*_, _<_, _≤_}
 use native.Mathlib.Omega.{arith}
 use borrow.Author.Tests.{lt-ltb, le-ltb}
 use lib.ListN.{length, length-append, length-map}
 use lib.Ieee.{Float}
+use Rattle.game.proofs.Finite.{length-flatMap, sum-equal}
 use Rattle.refusal.specs.Refusal.{numberOf}
 use Rattle.refusal.specs.Told.{values, refused}
 use Rattle.refusal.specs.declared.NormalFormError.{NormalFormError}
@@ -16,10 +16,15 @@ use Rattle.table.specs.Outputs.{over}
 use Rattle.words.specs.Words.{word, closed}
 use Rattle.words.proofs.Words.{bytes-length, closed-length}
 use Rattle.deposit.specs.Deposit.{payoffWords, deposit, fileOf}
-use Rattle.deposit.specs.Put.{wordsPut}
 use Rattle.deposit.specs.Answers.{writeAnswer, writeBytes}
 use Rattle.deposit.specs.Meaning.{wordsBefore}
-use Rattle.deposit.proofs.Puts.{put-more, put-whole, payoffs-words}
+
+pub words-three : (x : Float) → length (payoffWords x) ≡ 3
+unfolding payoffWords
+words-three x = refl
+
+pub payoffs-words : (xs : List Float) → length (flatMap payoffWords xs) ≡ length xs * 3
+payoffs-words xs = length-flatMap payoffWords xs ∙ sum-equal (λ x. length (payoffWords x)) 3 words-three xs
 
 module _ (counts : List ℕ) (payoffs : List Float) where
   -- the words before the closing one
@@ -35,21 +40,6 @@ module _ (counts : List ℕ) (payoffs : List Float) where
   pub deposit-length : length (deposit counts payoffs) ≡ 4 * (wordsBefore counts payoffs + 1)
   unfolding deposit
   deposit-length = omega (arith, bytes-length (closed body), closed-length body, body-length)
-
-  -- the opening word, the counts, the payoffs and the closing word, each put after the last
-  pub file-put : (bytes : List ℕ) → length (deposit counts payoffs) ≤ length bytes
-      → wordsPut (wordsPut (wordsPut (wordsPut bytes 0 (word 0 (256 + length counts) ∷ [])) 1 (map (word 1) counts)) (1 + length counts) (flatMap payoffWords payoffs)) (wordsBefore counts payoffs) (word 3 (wordsBefore counts payoffs) ∷ [])
-      ≡ over (deposit counts payoffs) bytes
-  unfolding deposit closed
-  file-put bytes h =
-      let o = word 0 (256 + length counts) in
-      let cs = map (word 1) counts in
-      let ps = flatMap payoffWords payoffs in
-      ap (λ (r : List ℕ). wordsPut (wordsPut r (1 + length counts) ps) (wordsBefore counts payoffs) (word 3 (wordsBefore counts payoffs) ∷ [])) (put-more bytes 0 1 (o ∷ []) cs refl)
-      ∙ ap (λ (r : List ℕ). wordsPut r (wordsBefore counts payoffs) (word 3 (wordsBefore counts payoffs) ∷ [])) (put-more bytes 0 (1 + length counts) (o ∷ cs) ps (omega (arith, length-map counts (word 1))))
-      ∙ put-more bytes 0 (wordsBefore counts payoffs) body (word 3 (wordsBefore counts payoffs) ∷ []) (omega (arith, body-length))
-      ∙ ap (λ (n : ℕ). wordsPut bytes 0 (body ++ (word 3 n ∷ []))) (sym body-length)
-      ∙ put-whole bytes (closed body) (omega (arith, h, bytes-length (closed body)))
 
 -- ---- what is answered and written
 

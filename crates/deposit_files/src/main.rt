@@ -250,7 +250,7 @@ fn write_answer(r: UsizeResult, file: &[u8], back: &[u8]) -> usize {
 }
 
 fn write_into(counts: &[usize], payoffs: &[f64], file: &[u8], back: &mut [u8]) -> usize {
-    let r = deposit::write(counts, payoffs, back);
+    let r = deposit_writer::write(counts, payoffs, back);
     write_answer(r, file, back)
 }
 
@@ -302,7 +302,7 @@ fn read_answer(r: UsizeResult, file: &[u8], counts: &[usize], payoffs: &[f64]) -
 }
 
 fn read_into(file: &[u8], counts: &mut [usize], payoffs: &mut [f64]) -> usize {
-    let r = deposit::read(file, counts, payoffs);
+    let r = deposit_reader::read(file, counts, payoffs);
     read_answer(r, file, counts, payoffs)
 }
 
@@ -493,7 +493,7 @@ fn of_accepted(name: &[u8], file: &[u8]) {
 }
 
 fn of_outputs(name: &[u8], file: &[u8], counts: &mut [usize], payoffs: &mut [f64]) {
-    let r = deposit::read(file, counts, payoffs);
+    let r = deposit_reader::read(file, counts, payoffs);
     of_read(r, name, file, counts, payoffs);
 }
 
@@ -592,7 +592,7 @@ fn write_told(r: UsizeResult, back: &[u8]) {
 }
 
 fn write_to(counts: &[usize], payoffs: &[f64], back: &mut [u8]) {
-    let r = deposit::write(counts, payoffs, back);
+    let r = deposit_writer::write(counts, payoffs, back);
     write_told(r, back);
 }
 
@@ -740,7 +740,7 @@ fn large_told(r: UsizeResult, payoffs: &[f64], counts: &[usize], again: &[f64]) 
 }
 
 fn large_into(file: &[u8], payoffs: &[f64], counts: &mut [usize], again: &mut [f64]) {
-    let r = deposit::read(file, counts, again);
+    let r = deposit_reader::read(file, counts, again);
     large_told(r, payoffs, counts, again);
 }
 
@@ -791,7 +791,7 @@ fn large(payoffs: &[f64]) {
 }
 
 fn read_written(file: &mut [u8; LARGE_ROOM], payoffs: &[f64]) {
-    deposit::write(&[8, 8, 16, 16], payoffs, file);
+    deposit_writer::write(&[8, 8, 16, 16], payoffs, file);
     large_files(file, payoffs);
 }
 

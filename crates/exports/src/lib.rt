@@ -25,7 +25,8 @@ ghost use Rattle.best_response.specs.Answers.{responseUtilities, responsesAnswe
 ghost use Rattle.pure_nash.specs.Answers.{isEquilibriumAnswer, countAnswer, equilibriaAnswer, equilibriaChoices, equilibriaUtilities};
 ghost use Rattle.strict_dominance.specs.Answers.{strategiesOf, dominatorsOf, dominatedAnswer, dominatedWritten};
 ghost use Rattle.survivors.specs.Survivors.{freshOf};
-ghost use Rattle.survivors.specs.Answers.{strikeAnswer, strikeLeaves, survivingAnswer, survivingChoices, survivingUtilities, callsOf, dominatorOf, strikesAnswer, strikesLeave, strikesWritten};
+ghost use Rattle.survivor_calls.specs.Answers.{strikeAnswer, strikeLeaves, survivingAnswer, survivingChoices, survivingUtilities};
+ghost use Rattle.strike_lists.specs.Answers.{callsOf, dominatorOf, strikesAnswer, strikesLeave, strikesWritten};
 ghost use Rattle.deposit.specs.Answers.{readAnswer, readCounts, readPayoffs, writeAnswer, writeBytes};
 ghost use Rattle.catalogue.specs.Answers.{numberAnswer};
 ghost use Rattle.candidates.specs.Checks.{incentives, verdictOf, minimax};
@@ -291,7 +292,7 @@ pub extern "C" fn sigvanyor_strike(
 {
     let held = *survivors_marks;
     let before = c_outputs::survivors_of(survivors_players, survivors_counts, &held);
-    let struck = survivors::strike(counts, payoffs, before, player, strategy);
+    let struck = survivor_calls::strike(counts, payoffs, before, player, strategy);
     let answer = struck.answer;
     let left = struck.survivors;
     match answer {
@@ -325,7 +326,7 @@ pub extern "C" fn sigvanyor_surviving_equilibria(
     ensures { λ r. ⌜ now (utilities .exit) ≡ over (survivingUtilities (now (counts .entry)) (now (payoffs .entry)) (survivorsOf «survivors_players» (now («survivors_counts» .entry)) (now («survivors_marks» .entry))) (length (now (choices .entry))) (length (now (utilities .entry)))) (now (utilities .entry)) ⌝ }
 {
     let left = c_outputs::survivors_of(survivors_players, survivors_counts, survivors_marks);
-    let answer = survivors::surviving_equilibria(counts, payoffs, left, choices, utilities);
+    let answer = survivor_calls::surviving_equilibria(counts, payoffs, left, choices, utilities);
     c_outputs::usize_into(answer, number)
 }
 
@@ -352,7 +353,7 @@ pub extern "C" fn sigvanyor_strikes(
     ensures { λ r. ⌜ now («survivors_counts» .exit) ≡ beside (strikesAnswer (now (counts .entry)) (now (payoffs .entry)) (callsOf (now (players .entry)) (now (strategies .entry))) (length (now (answers .entry))) (length (now (dominators .entry)))) (strikesLeave (now (counts .entry)) (now (payoffs .entry)) (callsOf (now (players .entry)) (now (strategies .entry))) (length (now (answers .entry))) (length (now (dominators .entry))) .counts) (now («survivors_counts» .entry)) ⌝ }
     ensures { λ r. ⌜ now («survivors_marks» .exit) ≡ beside (strikesAnswer (now (counts .entry)) (now (payoffs .entry)) (callsOf (now (players .entry)) (now (strategies .entry))) (length (now (answers .entry))) (length (now (dominators .entry)))) (markBytes (strikesLeave (now (counts .entry)) (now (payoffs .entry)) (callsOf (now (players .entry)) (now (strategies .entry))) (length (now (answers .entry))) (length (now (dominators .entry))))) (now («survivors_marks» .entry)) ⌝ }
 {
-    let struck = survivors::strikes(counts, payoffs, players, strategies, answers, dominators);
+    let struck = strike_lists::strikes(counts, payoffs, players, strategies, answers, dominators);
     let answer = struck.answer;
     let left = struck.survivors;
     match answer {
@@ -378,7 +379,7 @@ pub extern "C" fn sigvanyor_read(
     ensures { λ r. ⌜ now (counts .exit) ≡ readCounts (now (bytes .entry)) (now (counts .entry)) (now (payoffs .entry)) ⌝ }
     ensures { λ r. ⌜ now (payoffs .exit) ≡ readPayoffs (now (bytes .entry)) (now (counts .entry)) (now (payoffs .entry)) ⌝ }
 {
-    let answer = deposit::read(bytes, counts, payoffs);
+    let answer = deposit_reader::read(bytes, counts, payoffs);
     c_outputs::usize_into(answer, players)
 }
 
@@ -394,7 +395,7 @@ pub extern "C" fn sigvanyor_write(
     ensures { λ r. ⌜ now (number .exit) ≡ output (writeAnswer (now (counts .entry)) (now (payoffs .entry)) (now (bytes .entry))) (now (number .entry)) ⌝ }
     ensures { λ r. ⌜ now (bytes .exit) ≡ writeBytes (now (counts .entry)) (now (payoffs .entry)) (now (bytes .entry)) ⌝ }
 {
-    let answer = deposit::write(counts, payoffs, bytes);
+    let answer = deposit_writer::write(counts, payoffs, bytes);
     c_outputs::usize_into(answer, number)
 }
 

@@ -22,7 +22,7 @@ use Rattle.best_response.specs.Answers.{opponentsRefusal, responses, responseUt
 use Rattle.pure_nash.specs.Answers.{listingAnswer, listedChoices, equilibriaAnswer, equilibriaChoices}
 use Rattle.survivors.specs.declared.Survivors.{Survivors}
 use Rattle.survivors.specs.Survivors.{withoutMark, allMarks, freshOf, markedFrom, foreign}
-use Rattle.survivors.specs.Answers.{strikeAnswer, strikeLeaves}
+use Rattle.survivor_calls.specs.Answers.{strikeAnswer, strikeLeaves}
 use Rattle.bimatrix.specs.Matrices.{bimatrix}
 use Rattle.bimatrix.specs.Keys.{rankAmong, ranks, different, strictlyRanked, key, leastKey}
 use Rattle.catalogue.specs.Catalogue.{orders, rankings, catalogue, place}

@@ -1,7 +1,7 @@
 -- Document 01's example of a report ("The report program"), shown true by computing the definition: its text, word by word, is the report on the
 -- deposit of its table. Assumes nothing.
 use mathlib.Core.Path.{_≡_, refl}
-use mathlib.Core.List.{List, flatMap}
+use mathlib.Core.List.{flatMap}
 use lib.Ieee as Ieee
 use Rattle.game.specs.Game.{strategies, profiles, whole, inside, others}
 use Rattle.game.specs.Solution.{dominates, dominators, dominator, gains, deviations, equilibrium, equilibria}
@@ -12,11 +12,10 @@ use Rattle.table.specs.Marks.{marked}
 use Rattle.table.specs.Checks.{countRefusal, countsRefusal, payoffsRefusal, tableRefusal}
 use Rattle.table.proofs.Examples.{pair, dilemma}
 use Rattle.survivors.specs.Survivors.{withoutMark, allMarks, freshOf, markedFrom, foreign}
-use Rattle.survivors.specs.Answers.{strikeAnswer, strikeLeaves}
+use Rattle.survivor_calls.specs.Answers.{strikeAnswer, strikeLeaves}
 use Rattle.words.specs.Words.{word as fileWord, kindOf, payloadOf, wordBytes, bytesOf, closed, wordAt, wordsOf}
 use Rattle.words.specs.Faults.{lengthFault, dueFault, closingFault}
 use Rattle.deposit.specs.Deposit.{payoffWords, deposit, playersIn, countsIn, payoffIn, payoffsIn, openingFault, countFault, cellFault, headFault, restFault}
-use Rattle.bimatrix.specs.Matrices.{bimatrix}
 use Rattle.bimatrix.specs.Keys.{rankAmong, different, strictlyRanked, key, leastKey}
 use Rattle.catalogue.specs.Catalogue.{orders, rankings, catalogue, place}
 use Rattle.catalogue.specs.Answers.{twoByTwo, gameNumber}

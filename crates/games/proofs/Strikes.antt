@@ -20,7 +20,8 @@ use Rattle.table.proofs.Examples.{ties, pair, dilemma, after}
 use Rattle.pure_nash.specs.Answers.{listingAnswer, listedChoices}
 use Rattle.survivors.specs.declared.Survivors.{Survivors}
 use Rattle.survivors.specs.Survivors.{withoutMark, markCount, allMarks, freshOf, noSurvivors, markedFrom, foreign}
-use Rattle.survivors.specs.Answers.{strikeAnswer, strikeLeaves, survivingAnswer, survivingChoices, chain, strikesAnswer}
+use Rattle.survivor_calls.specs.Answers.{strikeAnswer, strikeLeaves, survivingAnswer, survivingChoices}
+use Rattle.strike_lists.specs.Answers.{chain, strikesAnswer}
 
 -- the answers to a list of calls
 abbrev answers : List ℕ → List Float → List Strategy → List (Told ℕ)

@@ -15,7 +15,7 @@ use Rattle.game.specs.Finite.{below}
 use Rattle.game.proofs.Finite.{le-or-lt}
 use Rattle.refusal.specs.Refusal.{Refusal, numberOf, when, _then_, each}
 use Rattle.refusal.specs.declared.NormalFormError.{NormalFormError}
-use Rattle.refusal.specs.declared.NormalFormError.the-variants.{NoPlayers, TooManyPlayers, NoStrategies, TooManyStrategies, TooManyCells, NonFiniteUtility, OutputTooShort, MissingWord, WrongKind, WrongPayload, TrailingWord}
+use Rattle.refusal.specs.declared.NormalFormError.the-variants.{TooManyCells, OutputTooShort}
 use Rattle.refusal.specs.Told.{Told, values, refused, unless, toldOf}
 use Rattle.refusal.proofs.Refusal.{some-none, then-none, then-assoc}
 use Rattle.refusal.proofs.Told.{told-of, told-values}

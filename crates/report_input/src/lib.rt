@@ -27,7 +27,7 @@ pub fn read(
     if MAX_FILE_BYTES < bytes.len() {
         return UsizeResult::Err(NormalFormError::TooManyCells);
     }
-    match deposit::read(bytes, counts, payoffs) {
+    match deposit_reader::read(bytes, counts, payoffs) {
         UsizeResult::Ok(players) => UsizeResult::Ok(players),
         UsizeResult::Err(e) => {
             // only the payoffs can be short of room, where there are more cells than the report takes

@@ -27,9 +27,9 @@ fn write_read(
     ensures { λ _. ⌜ now («payoffs_back» .exit) ≡ over (writtenOf (λ t. t .1) (writtenRead (now (counts .entry)) (now (payoffs .entry)) (length (now (bytes .entry))) (length (now («counts_back» .entry))) (length (now («payoffs_back» .entry))))) (now («payoffs_back» .entry)) ⌝ }
     ensures { λ _. ⌜ now (bytes .exit) ≡ writeBytes (now (counts .entry)) (now (payoffs .entry)) (now (bytes .entry)) ⌝ }
 {
-    match deposit::write(counts, payoffs, bytes) {
+    match deposit_writer::write(counts, payoffs, bytes) {
         UsizeResult::Err(e) => UsizeResult::Err(e),
-        UsizeResult::Ok(n) => deposit::read(&bytes[0..n], counts_back, payoffs_back),
+        UsizeResult::Ok(n) => deposit_reader::read(&bytes[0..n], counts_back, payoffs_back),
     }
 }
 
@@ -45,11 +45,11 @@ fn read_write(
     ensures { λ _. ⌜ now (counts .exit) ≡ readCounts (now (bytes .entry)) (now (counts .entry)) (now (payoffs .entry)) ⌝ }
     ensures { λ _. ⌜ now (payoffs .exit) ≡ readPayoffs (now (bytes .entry)) (now (counts .entry)) (now (payoffs .entry)) ⌝ }
 {
-    match deposit::read(bytes, counts, payoffs) {
+    match deposit_reader::read(bytes, counts, payoffs) {
         UsizeResult::Err(e) => UsizeResult::Err(e),
         UsizeResult::Ok(players) => match table::profile_count(&counts[0..players]) {
             UsizeResult::Err(e) => UsizeResult::Err(e),
-            UsizeResult::Ok(profiles) => deposit::write(
+            UsizeResult::Ok(profiles) => deposit_writer::write(
                 &counts[0..players],
                 &payoffs[0..profiles * players],
                 bytes_back,

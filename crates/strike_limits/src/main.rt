@@ -10,8 +10,8 @@ use cases::refused;
 use cases::text;
 use cases::told_usize;
 use refusal::UnitResult;
+use survivor_calls::StrikeResult;
 use survivors::FreshResult;
-use survivors::StrikeResult;
 use survivors::Survivors;
 use table::MAX_CELLS;
 use table::MAX_MARKS;
@@ -116,7 +116,7 @@ fn listing(
     utilities: &mut [f64],
 ) {
     text(b" equilibria");
-    told_usize(survivors::surviving_equilibria(counts, payoffs, left, choices, utilities));
+    told_usize(survivor_calls::surviving_equilibria(counts, payoffs, left, choices, utilities));
     text(b",");
     numbers(choices);
     text(b",");
@@ -158,7 +158,7 @@ fn of_strike(
     player: usize,
     strategy: usize,
 ) -> Survivors {
-    let struck = survivors::strike(counts, payoffs, left, player, strategy);
+    let struck = survivor_calls::strike(counts, payoffs, left, player, strategy);
     text(name);
     text(b": strike");
     number(player);
@@ -178,7 +178,7 @@ fn listed(
     dominators: &mut [usize],
 ) {
     text(b" strikes");
-    let struck = survivors::strikes(counts, payoffs, players, strategies, answers, dominators);
+    let struck = strike_lists::strikes(counts, payoffs, players, strategies, answers, dominators);
     let answer = struck.answer;
     let left = struck.survivors;
     told_usize(answer);
@@ -495,7 +495,7 @@ fn of_fault(name: &[u8], counts: &[usize], payoffs: &[f64]) {
     text(b": fresh");
     told_fresh(survivors::fresh(counts, payoffs));
     text(b"; strike");
-    told_strike(survivors::strike(counts, payoffs, left, counts.len(), usize::MAX));
+    told_strike(survivor_calls::strike(counts, payoffs, left, counts.len(), usize::MAX));
     text(b";");
     list_into(counts, payoffs, left, 0, 0);
     text(b";");
@@ -549,7 +549,7 @@ fn strike_faults() {
 fn of_small(payoffs: &[f64], left: Survivors) {
     let small = first(payoffs, SMALL);
     text(b": strike");
-    told_strike(survivors::strike(&[2, 3, 4], small, left, 0, 0));
+    told_strike(survivor_calls::strike(&[2, 3, 4], small, left, 0, 0));
     text(b";");
     list_into(&[2, 3, 4], small, left, 3, 4);
     text(b"\n");

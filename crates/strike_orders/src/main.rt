@@ -259,7 +259,7 @@ fn listings(counts: &[usize], payoffs: &[f64], left: Survivors) -> Listed {
     let mut utilities = [FLOAT_FILLING; CELLS];
     let mut whole_choices = [FILLING; CELLS];
     let mut whole_utilities = [FLOAT_FILLING; CELLS];
-    let n = told(survivors::surviving_equilibria(
+    let n = told(survivor_calls::surviving_equilibria(
         counts,
         payoffs,
         left,
@@ -480,7 +480,7 @@ fn struck(counts: &[usize], payoffs: &[f64], before: Progress) -> Progress {
     let mut p = before;
     let call = p.call;
     let left = p.left;
-    let made = survivors::strike(counts, payoffs, left, call.player, call.strategy);
+    let made = survivor_calls::strike(counts, payoffs, left, call.player, call.strategy);
     let answer = made.answer;
     let handed_back = made.survivors;
     p.left = handed_back;
@@ -595,7 +595,7 @@ fn same_list(
     if strategies.len() < n {
         return false;
     }
-    let made = survivors::strikes(
+    let made = strike_lists::strikes(
         counts,
         payoffs,
         &players[0..n],

@@ -1,5 +1,5 @@
 -- Which survivors are foreign, in quantifiers. Assumes nothing.
-use mathlib.Core.Path.{_≡_, ap}
+use mathlib.Core.Path.{_≡_, sym, ap, _∙_, subst}
 use mathlib.Core.Bool.{Bool, true, false, not, _&&_}
 use mathlib.Core.List.{List}
 use mathlib.Core.Logic.{_↔_, ⊎-elim}
@@ -7,7 +7,8 @@ use mathlib.Core.Option.{none}
 use Prim.Native.Nat.{ℕ, _+_, _≤_, _<_}
 use native.Mathlib.Omega.{arith}
 use borrow.Author.Count.{below-more}
-use lib.Dec.{T, leb, eqb, leb→le, le→leb}
+use borrow.Author.Tests.{le-ltb, lt-ltb}
+use lib.Dec.{T, ltb, leb, eqb, leb→le, le→leb}
 use lib.ListN.{length, getD}
 use Rattle.game.specs.Finite.{below, filter}
 use Rattle.game.specs.Game.{Marks}
@@ -21,6 +22,7 @@ use Rattle.table.proofs.Walk.{mark-past}
 use Rattle.survivors.specs.declared.Survivors.{Survivors}
 use Rattle.survivors.specs.Survivors.{marksOf, markedFrom, samePlayers, sameCounts, eachMarked, nonePast, foreign, foreignRefusal}
 use Rattle.survivors.specs.Meaning.{Own}
+use Rattle.survivors.proofs.Marks.{Full, mark-beyond}
 
 -- A marked strategy is below the limit.
 pub mark-low : (marks : List Bool) (p s : ℕ) → T (marked marks p s) → s < maxStrategies
@@ -110,6 +112,16 @@ module _ (counts : List ℕ) (v : Survivors) where
       back : (b : Bool) → not b ≡ false → T b
       back true h = tt
       back false h = let z : _≡_ {A = ℕ} 0 1 = cc in absurd (omega arith)
+
+  -- with more counts than there may be, survivors are foreign: no player past the limit has a mark
+  pub foreign-past : Full v → (length counts ≤ maxPlayers → Own counts v) → ltb maxPlayers (length counts) ≡ foreign counts v
+  foreign-past full few =
+      ⊎-elim
+      (λ (h : length counts ≤ maxPlayers). le-ltb maxPlayers (length counts) h ∙ sym (own-not (few h)))
+      (λ (h : maxPlayers < length counts).
+      lt-ltb maxPlayers (length counts) h ∙ sym (not-own (λ o.
+      let (s, k) = o .some maxPlayers h in subst T (mark-beyond (v .marks) maxPlayers s full (omega arith)) k)))
+      (le-or-lt (length counts) maxPlayers)
 
 -- ---- player by player
 

@@ -1,5 +1,3 @@
 -- The definitions of this crate, to be read in this order.
 pub mod Survivors
-pub mod Answers
 pub mod Meaning
-pub mod Demand3

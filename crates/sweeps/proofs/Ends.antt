@@ -17,10 +17,11 @@ use Rattle.table.specs.Table.{tableGame}
 use Rattle.table.specs.Meaning.{Table}
 use Rattle.survivors.specs.declared.Survivors.{Survivors}
 use Rattle.survivors.specs.Survivors.{marksOf, markCount, freshOf}
-use Rattle.survivors.specs.Answers.{toldAnswer, chainFrom}
+use Rattle.survivor_calls.specs.Answers.{toldAnswer}
+use Rattle.strike_lists.specs.Answers.{chainFrom}
 use Rattle.survivors.proofs.Marks.{count-fresh}
-use Rattle.survivors.proofs.Chain.{Good, fresh-good, told, ran}
-use Rattle.survivors.proofs.Demand3.{demand-3}
+use Rattle.strike_lists.proofs.Chain.{Good, fresh-good, told, ran}
+use Rattle.strike_lists.proofs.Demand3.{demand-3}
 use Rattle.sweeps.specs.Sweeps.{Strike, Swept, struckBy, sweepThen, sweepCalls, sweep, struckIn, sweepsFrom, sweeps}
 use Rattle.sweeps.specs.Meaning.{Sweeps, ended, again, Done}
 use Rattle.sweeps.proofs.Strikes.{left-append, struck-append, unstruck, strikes-named, struck-counted}

@@ -13,8 +13,9 @@ use Rattle.refusal.specs.Told.{Told}
 use Rattle.table.specs.Meaning.{Table}
 use Rattle.survivors.specs.declared.Survivors.{Survivors}
 use Rattle.survivors.specs.Survivors.{markCount, freshOf}
-use Rattle.survivors.specs.Answers.{handedBack, strikeAnswer, strikeLeaves, chainFrom}
-use Rattle.survivors.proofs.Chain.{Good, fresh-good, ran}
+use Rattle.survivor_calls.specs.Answers.{handedBack, strikeAnswer, strikeLeaves}
+use Rattle.strike_lists.specs.Answers.{chainFrom}
+use Rattle.strike_lists.proofs.Chain.{Good, fresh-good, ran}
 use Rattle.outputs.specs.Put.{past}
 use Rattle.outputs.proofs.Put.{sets-more, past-more, past-none}
 use Rattle.sweeps.specs.declared.Progress.{Progress}

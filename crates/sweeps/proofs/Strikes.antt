@@ -14,9 +14,10 @@ use Rattle.refusal.proofs.Told.{apart}
 use Rattle.table.specs.Meaning.{Table}
 use Rattle.survivors.specs.declared.Survivors.{Survivors}
 use Rattle.survivors.specs.Survivors.{markCount}
-use Rattle.survivors.specs.Answers.{handedBack, strikeAnswer, strikeLeaves, chainFrom, acceptedOf}
-use Rattle.survivors.specs.Meaning.{Struck, done, struck, kept}
-use Rattle.survivors.proofs.Chain.{Good, ran}
+use Rattle.survivor_calls.specs.Answers.{handedBack, strikeAnswer, strikeLeaves}
+use Rattle.strike_lists.specs.Answers.{chainFrom, acceptedOf}
+use Rattle.strike_lists.specs.Meaning.{Struck, done, struck, kept}
+use Rattle.strike_lists.proofs.Chain.{Good, ran}
 use Rattle.sweeps.specs.Sweeps.{Strike, strikesOf, struckBy}
 use Rattle.sweeps.specs.Meaning.{Named}
 

@@ -11,7 +11,7 @@ use Rattle.game.specs.Meaning.{Has, Undominated}
 use Rattle.table.specs.Table.{tableGame}
 use Rattle.survivors.specs.declared.Survivors.{Survivors}
 use Rattle.survivors.specs.Survivors.{marksOf, freshOf}
-use Rattle.survivors.specs.Answers.{chain}
+use Rattle.strike_lists.specs.Answers.{chain}
 use Rattle.sweeps.specs.Sweeps.{Strike, Swept, strikesOf, sweep, struckIn}
 
 module _ (counts : List ℕ) (payoffs : List Float) where

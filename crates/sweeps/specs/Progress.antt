@@ -10,7 +10,7 @@ use Rattle.game.specs.Finite.{product, empty}
 use Rattle.game.specs.Game.{Strategy}
 use Rattle.table.specs.Meaning.{Table}
 use Rattle.survivors.specs.declared.Survivors.{Survivors}
-use Rattle.survivors.specs.Answers.{chainFrom, chain}
+use Rattle.strike_lists.specs.Answers.{chainFrom, chain}
 use Rattle.outputs.specs.Put.{past}
 use Rattle.sweeps.specs.declared.Progress.{Progress}
 use Rattle.sweeps.specs.Sweeps.{struckBy, strikesNumbers}

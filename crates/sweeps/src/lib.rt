@@ -56,7 +56,14 @@ fn strike_one(
     ensures { λ r. ⌜ Runs (now (counts .entry)) (now (payoffs .entry)) (named player strategy ∷ []) from (now (struck .entry)) r (now (struck .exit)) ⌝ }
 {
     let survivors = from.survivors;
-    let result = survivors::strike_marked(counts, payoffs, profiles, survivors, player, strategy);
+    let result = survivor_calls::strike_marked(
+        counts,
+        payoffs,
+        profiles,
+        survivors,
+        player,
+        strategy,
+    );
     let answer = result.answer;
     let left = result.survivors;
     match answer {

@@ -1,10 +1,9 @@
 -- `report_lines::put_entry` meets its contract: the choices, the bits after spaces, then the line end. Assumes nothing.
-use mathlib.Core.Path.{sym, ap, _∙_}
+use mathlib.Core.Path.{sym, ap}
 use mathlib.Core.List.{List, [], _∷_, _++_, map}
 use Prim.Native.Nat.{ℕ}
 use native.Mathlib.Omega.{arith}
 use borrow.Author.Needs.{needs}
-use lib.ListN.{length}
 use Rattle.text.specs.Text.{decimal, lineEnd, spaced, joined, line}
 use Rattle.text.proofs.Puts.{Puts, puts-more, puts-same, puts-length}
 use Rattle.report_lines.specs.Lines.{bitsWord, entryLine}

@@ -1,5 +1,5 @@
 -- `report_lines::put_line` meets its contract: the numbers, then the line end. Assumes nothing.
-use mathlib.Core.List.{List, [], _∷_, map}
+use mathlib.Core.List.{[], _∷_, map}
 use borrow.Author.Needs.{needs}
 use Rattle.text.specs.Text.{decimal, lineEnd, joined, line}
 use Rattle.text.proofs.Puts.{Puts, puts-more, puts-length}

@@ -1,12 +1,11 @@
 -- `report_table::put_equilibria` meets its contract: the outputs have room for every profile, so that the listing is not refused. Assumes nothing.
-use mathlib.Core.Path.{_≡_, refl, sym, ap, ap₂, _∙_, subst}
+use mathlib.Core.Path.{_≡_, sym, ap, ap₂, _∙_, subst}
 use mathlib.Core.List.{List, [], _∷_, _++_, flatMap}
-use mathlib.Core.Option.{none}
 use Prim.Native.Nat.{ℕ, _*_, _≤_, _<_}
 use native.Mathlib.Omega.{arith}
 use borrow.Author.Needs.{needs}
 use lib.Dec.{T}
-use lib.ListN.{length, getD, drop, replicate, length-append}
+use lib.ListN.{length, getD, replicate, length-append}
 use lib.Ieee.{Float, nan, binary64, ofBits}
 use Rattle.game.specs.Game.{whole}
 use Rattle.refusal.specs.Refusal.{Refusal, numberOf, _then_}
@@ -15,13 +14,12 @@ use Rattle.refusal.proofs.Told.{apart}
 use Rattle.utility.specs.Order.{finite}
 use Rattle.table.specs.Table.{tableGame, profilePart}
 use Rattle.table.specs.Checks.{tableRefusal}
-use Rattle.table.specs.Outputs.{roomRefusal, over}
 use Rattle.table.proofs.Checks.{table-law}
-use Rattle.table.proofs.Outputs.{room-fits, over-length}
-use Rattle.pure_nash.specs.Answers.{tableEquilibria, listingAnswer, equilibriaAnswer, equilibriaChoices, equilibriaUtilities}
+use Rattle.table.proofs.Outputs.{room-fits}
+use Rattle.pure_nash.specs.Answers.{tableEquilibria, listingAnswer, equilibriaChoices, equilibriaUtilities}
 use Rattle.pure_nash.proofs.Listing.{listing-all}
 use Rattle.text.specs.Text.{decimal, line}
-use Rattle.text.proofs.Puts.{Puts, puts-more, puts-same, puts-length}
+use Rattle.text.proofs.Puts.{puts-more, puts-same, puts-length}
 use Rattle.report_lines.specs.Lines.{entryLines}
 use Rattle.report_table.specs.Report.{word, numberLine, equilibriumLine, equilibriaText}
 use Rattle.report_table.proofs.Lists.{begins-with, equilibria-fit, choices-length, utilities-length, utilities-finite, equilibria-lines}

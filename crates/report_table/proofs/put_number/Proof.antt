@@ -5,7 +5,7 @@ use mathlib.Core.Option.{Option, none, some}
 use Prim.Native.Nat.{ℕ}
 use borrow.Author.Needs.{needs}
 use Rattle.refusal.specs.Refusal.{Refusal, numberOf}
-use Rattle.refusal.specs.Told.{values, refused, unless, optionUsize}
+use Rattle.refusal.specs.Told.{values, unless, optionUsize}
 use Rattle.refusal.proofs.Told.{apart, told-values}
 use Rattle.table.specs.Table.{tableGame}
 use Rattle.table.proofs.Checks.{table-law}

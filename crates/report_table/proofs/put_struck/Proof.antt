@@ -1,16 +1,15 @@
 -- `report_table::put_struck` meets its contract: the output has room for three numbers of every strike, so a third of those written are the strikes.
 -- Assumes nothing.
-use mathlib.Core.Path.{_≡_, refl, sym, ap, ap₂, _∙_}
+use mathlib.Core.Path.{_≡_, ap, ap₂, _∙_}
 use mathlib.Core.List.{List, [], _∷_, _++_, flatMap}
-use Prim.Native.Nat.{ℕ, _*_, _/_, _≤_}
+use Prim.Native.Nat.{ℕ, _/_, _≤_}
 use native.Mathlib.Omega.{arith}
 use borrow.Author.Needs.{needs}
 use lib.ListN.{length, replicate}
-use lib.Ieee.{Float}
 use Rattle.game.specs.Game.{strategy}
 use Rattle.outputs.proofs.Put.{past-all}
 use Rattle.text.specs.Text.{decimal, line}
-use Rattle.text.proofs.Puts.{Puts, puts-more, puts-same, puts-length}
+use Rattle.text.proofs.Puts.{Puts, puts-more, puts-same}
 use Rattle.report_lines.specs.Lines.{numbersLine, numbersLines}
 use Rattle.sweeps.specs.Sweeps.{Strike, strikeNumbers, strikesNumbers, sweeps}
 use Rattle.report_table.specs.Report.{word, numberLine, struckText}

@@ -1,5 +1,5 @@
 -- `report_text::report` meets its contract: the output has room for every report (`report-size`), so all of it is put. Assumes nothing.
-use mathlib.Core.Path.{_≡_, refl, sym, ap, ap₂, _∙_, subst⁻¹}
+use mathlib.Core.Path.{_≡_, sym, ap, _∙_, subst⁻¹}
 use mathlib.Core.List.{List}
 use Prim.Native.Nat.{ℕ, _≤_}
 use native.Mathlib.Omega.{arith}
@@ -7,12 +7,12 @@ use borrow.Author.Needs.{needs}
 use lib.ListN.{length, take, replicate}
 use lib.Ieee.{Float, binary64, ofBits}
 use Rattle.refusal.specs.Refusal.{numberOf}
-use Rattle.refusal.specs.Told.{Told, values, refused, toldOf, toldUsize}
+use Rattle.refusal.specs.Told.{values, refused, toldOf, toldUsize}
 use Rattle.table.specs.Table.{cells}
 use Rattle.table.specs.Meaning.{Table}
 use Rattle.words.specs.Words.{Bytes, wordsOf}
 use Rattle.deposit.specs.Deposit.{countsIn, payoffsIn}
-use Rattle.text.proofs.Puts.{Puts, puts-same}
+use Rattle.text.proofs.Puts.{puts-same}
 use Rattle.report_input.specs.Input.{maxReportCells, inputTable}
 use Rattle.report_table.specs.Report.{numberLine, tableReport}
 use Rattle.report_text.specs.Report.{toldReport, report}

@@ -14,7 +14,7 @@ use mathlib.Core.List.{List}
 use Rattle.table.specs.Limits.{maxPlayers}
 use Rattle.table.specs.Marks.{marked}
 use Rattle.survivors.specs.Survivors.{markedFrom}
-use Rattle.survivors.proofs.Foreign.{OwnTo, own-start, own-more, own-all, own-marked, own-none, own-not, not-own}
+use Rattle.survivors.proofs.Foreign.{OwnTo, own-start, own-more, own-all, own-marked, own-none, foreign-past, not-own}
 use Rattle.survivors.proofs.is_foreign.Statement.{statement}
 use Rattle.survivors.proofs.is_foreign.Tie as tie
 
@@ -115,7 +115,8 @@ loop-again c =
 returns-5 : tie.Need-returns-5 Inv-loop μ-loop
 returns-5 c =
     let s = c .before .before .before .before .before .before .before in
-    sym (own-not (s .args .counts .now) (s .args .survivors) (own-all (s .args .counts .now) (s .args .survivors) (c .before .loop .p) (c .loop-test .left) (s .pre) (c .before .before .before .before .if1 .left) (c .before .loop .inv .1)))
+    foreign-past (s .args .counts .now) (s .args .survivors) (search needs) (λ few.
+    own-all (s .args .counts .now) (s .args .survivors) (c .before .loop .p) (c .loop-test .left) few (c .before .before .before .before .if1 .left) (c .before .loop .inv .1))
 
 pub is-foreign-spec : {M : Type 1} → statement M
 is-foreign-spec =

@@ -8,8 +8,8 @@ use lib.Ieee.{Float}
 use Rattle.game.specs.Finite.{empty}
 use Rattle.game.specs.Game.{Strategy, strategy}
 use Rattle.refusal.specs.Told.{Told, values, refused, toldUsize}
-use Rattle.survivors.specs.Answers.{handedBack, strikeAnswer}
-use Rattle.survivors.proofs.Chain.{told}
+use Rattle.survivor_calls.specs.Answers.{handedBack, strikeAnswer}
+use Rattle.strike_lists.proofs.Chain.{told}
 use Rattle.sweeps.specs.declared.Progress.{Progress}
 use Rattle.sweeps.specs.Sweeps.{strikesNumbers}
 use Rattle.sweeps.specs.Progress.{Put, Runs}

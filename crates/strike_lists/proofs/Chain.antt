@@ -1,0 +1,164 @@
+-- A chain of strikes from survivors that are not foreign, held against the machine's run from their marks: the same answers and the same
+-- marks, and no survivors become foreign. Assumes nothing.
+use mathlib.Core.Path.{_≡_, refl, sym, ap, _∙_, subst, subst⁻¹}
+use mathlib.Core.Logic.{_↔_, ⊎-elim}
+use mathlib.Core.List.{List, [], _∷_, _++_, map}
+use Prim.Native.Nat.{ℕ, suc, _+_, _<_}
+use native.Mathlib.Nat.{zero-add}
+use native.Mathlib.Omega.{arith}
+use lib.Dec.{T, eqb}
+use lib.Ieee.{Float}
+use Rattle.game.specs.Game.{Strategy, Marks, whole}
+use Rattle.game.specs.Strikes.{Answer, refused, accepted, answer, without, after, runFrom}
+use Rattle.game.specs.Demand3.{Accepted}
+use Rattle.game.proofs.Finite.{eqb-T, either}
+use Rattle.game.proofs.Game.{whole-law}
+use Rattle.game.proofs.Strikes.{Answered, answer-law, without-law}
+use Rattle.refusal.specs.Told.{Told, values, refused as toldRefused}
+use Rattle.table.specs.Limits.{maxStrategies}
+use Rattle.table.specs.Table.{tableGame}
+use Rattle.table.specs.Meaning.{Table}
+use Rattle.table.proofs.Checks.{table-law}
+use Rattle.table.proofs.Space.{space-count}
+use Rattle.table.specs.Answers.{spaceOf}
+use Rattle.survivors.specs.declared.Survivors.{Survivors}
+use Rattle.survivors.specs.Survivors.{marksOf, withoutMark, markCount, freshOf}
+use Rattle.survivor_calls.specs.Answers.{toldAnswer, handedBack, strikeAnswer, strikeLeaves}
+use Rattle.strike_lists.specs.Answers.{Chain, chainFrom, acceptedOf}
+use Rattle.survivors.specs.Meaning.{Own}
+use Rattle.strike_lists.specs.Meaning.{Struck, done, struck, kept}
+use Rattle.survivors.proofs.Marks.{Full, fresh-full, fresh-marks, without-full, without-marks, count-without}
+use Rattle.survivors.proofs.Foreign.{own-not}
+use Rattle.survivor_calls.proofs.Cases.{strike-told, not-foreign}
+
+module _ (counts : List ℕ) (payoffs : List Float) where
+  -- what every strike of a list keeps of the survivors: as many marks as there may be, and they are not foreign
+  pub record Good (v : Survivors) : Type 0 where
+    pub full : Full v
+    pub own : Own counts v
+
+  pub fresh-good : Table counts payoffs → Good (freshOf counts)
+  unfolding freshOf spaceOf tableGame
+  fresh-good t =
+      let g = tableGame counts payoffs in
+      let is : (p s : ℕ) → marksOf (freshOf counts) p s ≡ whole g p s = λ p s. ap (λ (m : Marks). m p s) (fresh-marks counts payoffs (t .shape)) in
+      record {
+        full = fresh-full counts;
+        own = record {
+          same-players = refl;
+          same-counts = λ p l. space-count counts p (t .shape .few);
+          some = λ p l. (0, subst T (sym (is p 0)) (whole-law g p 0 .1 (t .shape .low p l)));
+          within = λ p s l h. whole-law g p s .0 (subst T (is p s) h);
+        };
+      }
+
+  -- ---- one strike
+
+  module _ (t : Table counts payoffs) (v : Survivors) (k : Good v) (c : Strategy) where
+    -- the answer is the machine's
+    pub told : strikeAnswer counts payoffs v c ≡ toldAnswer (answer (tableGame counts payoffs) (marksOf v) c)
+    told = strike-told counts payoffs v c (not-foreign counts payoffs v (table-law counts payoffs .1 t) (own-not counts v (k .own)))
+
+    module _ (u : ℕ) (a : Accepted (tableGame counts payoffs) (marksOf v) c u) where
+      low : c .number < maxStrategies
+      unfolding tableGame
+      low = omega (arith, a .survives .0 .1, t .shape .high (c .player) (a .survives .0 .0))
+
+      -- an accepted one takes just its mark
+      taken : marksOf (withoutMark v c) ≡ without (marksOf v) c
+      unfolding tableGame
+      taken = without-marks v c (k .full) (omega (arith, a .survives .0 .0, t .shape .few)) low
+
+      less : markCount v ≡ suc (markCount (withoutMark v c))
+      less = count-without v c low (a .survives .1)
+
+      after-law : (p s : ℕ) → T (marksOf (withoutMark v c) p s) ↔ (T (marksOf v p s) × ((p ≡ c .player) × (s ≡ c .number) → ⊥))
+      after-law p s = subst (λ (m : Marks). T (m p s) ↔ (T (marksOf v p s) × ((p ≡ c .player) × (s ≡ c .number) → ⊥))) (sym taken) (without-law (marksOf v) c p s)
+
+      -- and leaves its player the dominator
+      stays : Good (withoutMark v c)
+      unfolding withoutMark tableGame
+      stays =
+          record {
+            full = without-full v c (k .full) (omega (arith, a .survives .0 .0, t .shape .few)) low;
+            own = record {
+              same-players = k .own .same-players;
+              same-counts = k .own .same-counts;
+              some = λ p l.
+                  ⊎-elim
+                  (λ (e : T (eqb p (c .player))).
+                  let is : p ≡ c .player = eqb-T p (c .player) .0 e in
+                  (u, after-law p u .1 (rw is (a .dominator .1), λ q. a .dominator .2 .0 (q .1))))
+                  (λ n. let (s, h) = k .own .some p l in (s, after-law p s .1 (h, λ q. n (eqb-T p (c .player) .1 (q .0)))))
+                  (either (eqb p (c .player)));
+              within = λ p s l h. k .own .within p s l (after-law p s .0 h .0);
+            };
+          }
+
+  -- ---- a chain of them
+
+  -- a chain with one more answer in front, and with one more call at the end
+  abbrev with-answer : Told ℕ → Chain → Chain
+  with-answer a x = record { answers = a ∷ x .answers; survivors = x .survivors }
+
+  chain-cons : (v : Survivors) (c : Strategy) (cs : List Strategy) (a : Told ℕ) → strikeAnswer counts payoffs v c ≡ a
+      → chainFrom counts payoffs v (c ∷ cs) ≡ with-answer a (chainFrom counts payoffs (handedBack v c a) cs)
+  unfolding strikeLeaves
+  chain-cons v c cs a e = ap (λ (a : Told ℕ). with-answer a (chainFrom counts payoffs (handedBack v c a) cs)) e
+
+  pub chain-last : (v : Survivors) (cs : List Strategy) (c : Strategy)
+      → let x = chainFrom counts payoffs v cs in
+      chainFrom counts payoffs v (cs ++ (c ∷ [])) ≡ record {
+        answers = x .answers ++ (strikeAnswer counts payoffs (x .survivors) c ∷ []);
+        survivors = strikeLeaves counts payoffs (x .survivors) c;
+      }
+  chain-last v [] c = refl
+  chain-last v (d ∷ cs) c = ap (with-answer (strikeAnswer counts payoffs v d)) (chain-last (strikeLeaves counts payoffs v d) cs c)
+
+  -- what a chain x of the calls cs from v did, where the machine's run of them leaves the marks m and gives the answers ans
+  pub record Ran (v : Survivors) (cs : List Strategy) (m : Marks) (ans : List Answer) (x : Chain) : Type 0 where
+    pub answers : x .answers ≡ map toldAnswer ans
+    pub marks : marksOf (x .survivors) ≡ m
+    pub stays : Good (x .survivors)
+    pub calls : Struck counts payoffs v cs (x .answers) (x .survivors)
+    pub counted : acceptedOf (x .answers) + markCount (x .survivors) ≡ markCount v
+
+  -- the run of the calls cs from the marks m
+  abbrev RanFrom : Survivors → List Strategy → Marks → Type 0
+  RanFrom v cs m =
+      let r = runFrom (tableGame counts payoffs) m cs in Ran v cs (r .marks) (r .answers) (chainFrom counts payoffs v cs)
+
+  ran-cons : Table counts payoffs → (v : Survivors) → Good v → (c : Strategy) (cs : List Strategy) → ((w : Survivors) → Good w → RanFrom w cs (marksOf w))
+      → RanFrom v (c ∷ cs) (marksOf v)
+  unfolding strikeLeaves
+  ran-cons t v k c cs rest =
+      go (answer (tableGame counts payoffs) (marksOf v) c) (answer-law (tableGame counts payoffs) (marksOf v) c) (told t v k c)
+    where
+      leaves : {a : Told ℕ} → strikeAnswer counts payoffs v c ≡ a → strikeLeaves counts payoffs v c ≡ handedBack v c a
+      leaves e = ap (handedBack v c) e
+
+      go : (a : Answer) → Answered (tableGame counts payoffs) (marksOf v) c a → strikeAnswer counts payoffs v c ≡ toldAnswer a
+          → let r = runFrom (tableGame counts payoffs) (after (marksOf v) c a) cs in Ran v (c ∷ cs) (r .marks) (a ∷ r .answers) (chainFrom counts payoffs v (c ∷ cs))
+      go (refused e) h is =
+          let i = rest v k in
+          rw (chain-cons v c cs (toldRefused e) is) (record {
+            answers = ap {B = List (Told ℕ)} (λ l. toldRefused e ∷ l) (i .answers);
+            marks = i .marks;
+            stays = i .stays;
+            calls = kept is h (leaves is) (i .calls);
+            counted = i .counted;
+          })
+      go (accepted u) h is =
+          let e = taken t v k c u h in
+          let i : RanFrom (withoutMark v c) cs (without (marksOf v) c) = subst (RanFrom (withoutMark v c) cs) e (rest (withoutMark v c) (stays t v k c u h)) in
+          rw (chain-cons v c cs (values u) is) (record {
+            answers = ap {B = List (Told ℕ)} (λ l. values u ∷ l) (i .answers);
+            marks = i .marks;
+            stays = i .stays;
+            calls = struck is h (ap marksOf (leaves is) ∙ e) (subst⁻¹ (λ (w : Survivors). let x = chainFrom counts payoffs (withoutMark v c) cs in Struck counts payoffs w cs (x .answers) (x .survivors)) (leaves is) (i .calls));
+            counted = omega (arith, i .counted, less t v k c u h);
+          })
+
+  pub ran : Table counts payoffs → (v : Survivors) → Good v → (cs : List Strategy) → RanFrom v cs (marksOf v)
+  ran t v k [] = record { answers = refl; marks = refl; stays = k; calls = done; counted = zero-add _ }
+  ran t v k (c ∷ cs) = ran-cons t v k c cs (λ w j. ran t w j cs)

@@ -1,0 +1,4 @@
+-- The definitions of this crate, to be read in this order.
+pub mod Answers
+pub mod Meaning
+pub mod Demand3

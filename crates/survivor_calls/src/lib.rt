@@ -1,0 +1,131 @@
+// The calls on survivors: a strike takes a strategy out of a game because another surviving strategy of its player strictly dominates it
+// against all surviving choices of the others; and the equilibria among the survivors.
+use refusal::NormalFormError;
+use refusal::UsizeOption;
+use refusal::UsizeResult;
+use survivors::Survivors;
+use table::MAX_STRATEGIES;
+ghost use mathlib.Core.Path.{_≡_};
+ghost use lib.ListN.{length};
+ghost use Rattle.game.specs.Finite.{product};
+ghost use Rattle.game.specs.Game.{strategy as named};
+ghost use Rattle.game.specs.Strikes.{answer};
+ghost use Rattle.refusal.specs.Refusal.{numberOf};
+ghost use Rattle.refusal.specs.Told.{refused, toldUsize};
+ghost use Rattle.table.specs.Table.{tableGame};
+ghost use Rattle.table.specs.Meaning.{Table};
+ghost use Rattle.table.specs.Outputs.{over};
+ghost use Rattle.survivors.specs.Survivors.{marksOf};
+ghost use Rattle.survivor_calls.specs.Answers.{toldAnswer, handedBack, strikeAnswer, strikeLeaves, survivingAnswer, survivingChoices, survivingUtilities};
+
+// The answer to a strike, or to a list of them, beside the survivors.
+pub struct StrikeResult {
+    pub answer: UsizeResult,
+    pub survivors: Survivors,
+}
+
+// A refusal beside survivors.
+pub fn refuse(error: NormalFormError, survivors: Survivors) -> StrikeResult
+    ensures { λ r. ⌜ (toldUsize (r .answer) ≡ refused (numberOf error)) × (r .survivors ≡ survivors) ⌝ }
+{
+    StrikeResult {
+        answer: UsizeResult::Err(error),
+        survivors: survivors,
+    }
+}
+
+// ---- strikes
+
+// A strike that checks neither the table nor the survivors: the lowest dominator beside the survivors without that one mark, or 8, 14 or 15
+// beside the survivors unchanged. The caller proves that the table has none of refusals 1 to 7, and that it has `profiles` profiles.
+pub fn strike_marked(
+    counts: &[usize],
+    payoffs: &[f64],
+    profiles: usize,
+    survivors: Survivors,
+    player: usize,
+    strategy: usize,
+) -> StrikeResult
+    requires { ⌜ Table (now counts) (now payoffs) ⌝ }
+    requires { ⌜ profiles ≡ product (now counts) ⌝ }
+    ensures { λ r. ⌜ toldUsize (r .answer) ≡ toldAnswer (answer (tableGame (now (counts .entry)) (now (payoffs .entry))) (marksOf survivors) (named player strategy)) ⌝ }
+    ensures { λ r. ⌜ r .survivors ≡ handedBack survivors (named player strategy) (toldUsize (r .answer)) ⌝ }
+{
+    if counts.len() <= player {
+        return refuse(NormalFormError::InvalidPlayer, survivors);
+    }
+    if counts[player] <= strategy {
+        return refuse(NormalFormError::NoSurvivingStrategy, survivors);
+    }
+    let marks = survivors.marks;
+    if !marks[player * MAX_STRATEGIES + strategy] {
+        return refuse(NormalFormError::NoSurvivingStrategy, survivors);
+    }
+    match strict_dominance::lowest_dominator(
+        counts,
+        payoffs,
+        &marks,
+        false,
+        profiles,
+        player,
+        strategy,
+    ) {
+        UsizeOption::None => refuse(NormalFormError::NotDominated, survivors),
+        UsizeOption::Some(t) => StrikeResult {
+            answer: UsizeResult::Ok(t),
+            survivors: survivors::without_mark(survivors, player, strategy),
+        },
+    }
+}
+
+// A strike: the player's strategy is taken out, where a surviving strategy of the player strictly dominates it against all surviving choices
+// of the others. The lowest such dominator, beside the survivors without that one mark; or the first of 1 to 7, 16, 8, 14 and 15, beside
+// the survivors unchanged.
+pub fn strike(
+    counts: &[usize],
+    payoffs: &[f64],
+    survivors: Survivors,
+    player: usize,
+    strategy: usize,
+) -> StrikeResult
+    ensures { λ r. ⌜ toldUsize (r .answer) ≡ strikeAnswer (now (counts .entry)) (now (payoffs .entry)) survivors (named player strategy) ⌝ }
+    ensures { λ r. ⌜ r .survivors ≡ strikeLeaves (now (counts .entry)) (now (payoffs .entry)) survivors (named player strategy) ⌝ }
+{
+    match table::table_profile_count(counts, payoffs) {
+        UsizeResult::Err(e) => refuse(e, survivors),
+        UsizeResult::Ok(profiles) => {
+            if survivors::is_foreign(counts, survivors) {
+                return refuse(NormalFormError::ForeignSurvivors, survivors);
+            }
+            strike_marked(counts, payoffs, profiles, survivors, player, strategy)
+        }
+    }
+}
+
+// ---- the survivors' listing
+
+// The equilibria among the survivors, in profiles of survivors and with changes to survivors only, each once, in profile order: P choices of
+// each into `choices`, P payoffs of each, bits kept, into `utilities`, and how many there are. Elements past those written keep their
+// contents. Or the first of 1 to 7, 16, and 13 where either output is too short for all, and nothing is written.
+pub fn surviving_equilibria(
+    counts: &[usize],
+    payoffs: &[f64],
+    survivors: Survivors,
+    choices: &mut [usize],
+    utilities: &mut [f64],
+) -> UsizeResult
+    ensures { λ r. ⌜ toldUsize r ≡ survivingAnswer (now (counts .entry)) (now (payoffs .entry)) survivors (length (now (choices .entry))) (length (now (utilities .entry))) ⌝ }
+    ensures { λ r. ⌜ now (choices .exit) ≡ over (survivingChoices (now (counts .entry)) (now (payoffs .entry)) survivors (length (now (choices .entry))) (length (now (utilities .entry)))) (now (choices .entry)) ⌝ }
+    ensures { λ r. ⌜ now (utilities .exit) ≡ over (survivingUtilities (now (counts .entry)) (now (payoffs .entry)) survivors (length (now (choices .entry))) (length (now (utilities .entry)))) (now (utilities .entry)) ⌝ }
+{
+    match table::table_profile_count(counts, payoffs) {
+        UsizeResult::Err(e) => UsizeResult::Err(e),
+        UsizeResult::Ok(total) => {
+            if survivors::is_foreign(counts, survivors) {
+                return UsizeResult::Err(NormalFormError::ForeignSurvivors);
+            }
+            let marks = survivors.marks;
+            pure_nash::marked_equilibria(counts, payoffs, &marks, total, choices, utilities)
+        }
+    }
+}
