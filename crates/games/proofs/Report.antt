@@ -13,7 +13,7 @@ use Rattle.table.specs.Checks.{countRefusal, countsRefusal, payoffsRefusal, tab
 use Rattle.table.proofs.Examples.{pair, dilemma}
 use Rattle.survivors.specs.Survivors.{withoutMark, allMarks, freshOf, markedFrom, foreign}
 use Rattle.survivor_calls.specs.Answers.{strikeAnswer, strikeLeaves}
-use Rattle.words.specs.Words.{word as fileWord, kindOf, payloadOf, wordBytes, bytesOf, closed, wordAt, wordsOf}
+use Rattle.words.specs.Words.{word, kindOf, payloadOf, wordBytes, bytesOf, closed, wordAt, wordsOf}
 use Rattle.words.specs.Faults.{lengthFault, dueFault, closingFault}
 use Rattle.deposit.specs.Deposit.{payoffWords, deposit, playersIn, countsIn, payoffIn, payoffsIn, openingFault, countFault, cellFault, headFault, restFault}
 use Rattle.bimatrix.specs.Keys.{rankAmong, different, strictlyRanked, key, leastKey}
@@ -23,11 +23,11 @@ use Rattle.text.specs.Text.{decimal, hexadecimal, spaced, joined, line}
 use Rattle.report_input.specs.Input.{inputRefusal, inputTable}
 use Rattle.report_lines.specs.Lines.{bitsWord, entryLine, numbersLine}
 use Rattle.sweeps.specs.Sweeps.{struckIn, sweepsFrom, sweeps}
-use Rattle.report_table.specs.Report.{word, numberLine, catalogueLine, equilibriaText, struckText, tableReport}
+use Rattle.report_table.specs.Report.{codes, numberLine, catalogueLine, equilibriaText, struckText, tableReport}
 use Rattle.report_text.specs.Report.{report}
 
 dilemma-report :
     report (deposit pair dilemma)
-    ≡ word "players 2\ncounts 2 2\nequilibria 1\n1 1 3ff0000000000000 3ff0000000000000\nstruck 2\n0 0 1\n1 0 1\ncatalogue 71\n"
-unfolding flatMap strategies profiles whole inside others dominates dominators dominator gains deviations equilibrium equilibria answer finite orderKey rank Ieee.toBits Ieee.ofBits offset payoffAt profilePart tableGame marked countRefusal countsRefusal payoffsRefusal tableRefusal withoutMark allMarks freshOf markedFrom foreign strikeAnswer strikeLeaves fileWord kindOf payloadOf wordBytes bytesOf closed wordAt wordsOf lengthFault dueFault closingFault payoffWords deposit playersIn countsIn payoffIn payoffsIn openingFault countFault cellFault headFault restFault rankAmong different strictlyRanked key leastKey orders rankings catalogue place twoByTwo gameNumber decimal hexadecimal spaced joined line inputRefusal inputTable bitsWord entryLine numbersLine struckIn sweepsFrom sweeps numberLine catalogueLine equilibriaText struckText tableReport report
+    ≡ codes "players 2\ncounts 2 2\nequilibria 1\n1 1 3ff0000000000000 3ff0000000000000\nstruck 2\n0 0 1\n1 0 1\ncatalogue 71\n"
+unfolding flatMap strategies profiles whole inside others dominates dominators dominator gains deviations equilibrium equilibria answer finite orderKey rank Ieee.toBits Ieee.ofBits offset payoffAt profilePart tableGame marked countRefusal countsRefusal payoffsRefusal tableRefusal withoutMark allMarks freshOf markedFrom foreign strikeAnswer strikeLeaves word kindOf payloadOf wordBytes bytesOf closed wordAt wordsOf lengthFault dueFault closingFault payoffWords deposit playersIn countsIn payoffIn payoffsIn openingFault countFault cellFault headFault restFault rankAmong different strictlyRanked key leastKey orders rankings catalogue place twoByTwo gameNumber decimal hexadecimal spaced joined line inputRefusal inputTable bitsWord entryLine numbersLine struckIn sweepsFrom sweeps numberLine catalogueLine equilibriaText struckText tableReport report
 dilemma-report = refl

@@ -8,9 +8,10 @@ ghost use Rattle.refusal.specs.Told.{toldUsize, toldOf};
 ghost use Rattle.table.specs.Outputs.{writtenOf, over};
 ghost use Rattle.report_input.specs.Input.{inputTable};
 
-// The most cells, and the most bytes: those of a file with so many cells and MAX_PLAYERS counts.
+// The most cells.
 pub const MAX_REPORT_CELLS: usize = 2048;
 
+// The most bytes: those of a file with so many cells and MAX_PLAYERS counts.
 pub const MAX_FILE_BYTES: usize = 24616;
 
 // P, with the counts and the payoffs of the file written to the outputs, which have room for every file within the limits; or the first fault of

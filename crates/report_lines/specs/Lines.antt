@@ -16,7 +16,7 @@ bitsWord x = hexadecimal (toBits binary64 x)
 unfoldable pub entryLine : List ℕ → List Float → List ℕ
 entryLine choices utilities = line (map decimal choices ++ map bitsWord utilities)
 
--- numbers
+-- a line of numbers
 unfoldable pub numbersLine : List ℕ → List ℕ
 numbersLine ns = line (map decimal ns)
 

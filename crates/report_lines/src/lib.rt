@@ -12,10 +12,6 @@ ghost use Rattle.outputs.specs.Put.{past};
 ghost use Rattle.text.specs.Text.{spaced};
 ghost use Rattle.report_lines.specs.Lines.{bitsWord, entryLine, numbersLine, entryLines, numbersLines};
 
-const SPACE: u8 = 32;
-
-const LINE_END: u8 = 10;
-
 // Puts each payoff's bits in hexadecimal digits, after a space.
 fn put_bits(out: &mut [u8], at: usize, utilities: &[f64]) -> usize
     requires { ⌜ Finites (now utilities) ⌝ }
@@ -26,7 +22,7 @@ fn put_bits(out: &mut [u8], at: usize, utilities: &[f64]) -> usize
     let mut place = at;
     let mut i = 0;
     while i < utilities.len() {
-        place = outputs::put_byte(out, place, SPACE);
+        place = outputs::put_byte(out, place, b' ');
         place = text::put_hexadecimal(out, place, f64::to_bits(utilities[i]));
         i += 1;
     }
@@ -42,11 +38,11 @@ fn put_entry(out: &mut [u8], at: usize, choices: &[usize], utilities: &[f64]) ->
 {
     let mut place = text::put_numbers(out, at, choices);
     place = put_bits(out, place, utilities);
-    outputs::put_byte(out, place, LINE_END)
+    outputs::put_byte(out, place, b'\n')
 }
 
-// Puts the lines of `number` equilibria, whose choices and payoffs stand one after the other, `players` of each. The caller proves that there is a
-// player, that the slices have so many, and that the payoffs are finite.
+// Puts the lines of `number` equilibria, whose choices and payoffs stand one after the other, `players` of each. The caller proves that the
+// place is within the output, that there is a player, that the slices have so many, and that the payoffs are finite.
 pub fn put_entries(
     out: &mut [u8],
     at: usize,
@@ -79,10 +75,11 @@ fn put_line(out: &mut [u8], at: usize, numbers: &[usize]) -> usize
     ensures { λ _. ⌜ now (out .exit) ≡ sets (now (out .entry)) at (numbersLine (now (numbers .entry))) ⌝ }
 {
     let place = text::put_numbers(out, at, numbers);
-    outputs::put_byte(out, place, LINE_END)
+    outputs::put_byte(out, place, b'\n')
 }
 
-// Puts `number` lines of `width` numbers, which stand one after the other. The caller proves that there are so many.
+// Puts `number` lines of `width` numbers, which stand one after the other. The caller proves that the place is within the output, and that
+// there are so many.
 pub fn put_lines(out: &mut [u8], at: usize, numbers: &[usize], width: usize, number: usize) -> usize
     requires { ⌜ at ≤ length (now out) ⌝ }
     requires { ⌜ number * width ≤ length (now numbers) ⌝ }

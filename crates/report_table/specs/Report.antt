@@ -14,14 +14,14 @@ use Rattle.text.specs.Text.{decimal, line}
 use Rattle.report_lines.specs.Lines.{entryLine, numbersLine}
 use Rattle.sweeps.specs.Sweeps.{strikeNumbers, sweeps}
 
--- a word, as the codes of its characters
-abbrev pub word : String → List ℕ
-word no-characters = []
-word (c and s) = code c ∷ word s
+-- a text as the codes of its characters
+abbrev pub codes : String → List ℕ
+codes no-characters = []
+codes (c and s) = code c ∷ codes s
 
 -- a line of a word and a number
 unfoldable pub numberLine : String → ℕ → List ℕ
-numberLine name n = line (word name ∷ decimal n ∷ [])
+numberLine name n = line (codes name ∷ decimal n ∷ [])
 
 -- each list follows its length: the line that names it, and a line for each element
 abbrev pub listed : {A : Type 0} → String → (A → List ℕ) → List A → List ℕ
@@ -29,7 +29,7 @@ listed name f xs = numberLine name (length xs) ++ flatMap f xs
 
 -- the catalogue's number, or none
 unfoldable pub catalogueLine : Option ℕ → List ℕ
-catalogueLine none = line (word "catalogue" ∷ word "none" ∷ [])
+catalogueLine none = line (codes "catalogue" ∷ codes "none" ∷ [])
 catalogueLine (some n) = numberLine "catalogue" n
 
 module _ (counts : List ℕ) (payoffs : List Float) where
@@ -49,7 +49,7 @@ module _ (counts : List ℕ) (payoffs : List Float) where
   unfoldable pub tableReport : List ℕ
   tableReport =
       numberLine "players" (length counts)
-      ++ line (word "counts" ∷ map decimal counts)
+      ++ line (codes "counts" ∷ map decimal counts)
       ++ equilibriaText
       ++ struckText
       ++ catalogueLine (gameNumber catalogue (tableGame counts payoffs))

@@ -21,11 +21,11 @@ ghost use Rattle.report_table.specs.Report.{catalogueLine, equilibriaTex
 // How many numbers a strike has: player, strategy, dominator.
 const STRIKE_NUMBERS: usize = 3;
 
-// The most numbers of strikes.
+// The most numbers that strikes have.
 const MOST_NUMBERS: usize = STRIKE_NUMBERS * MAX_MARKS;
 
 // Puts a line of a word and a number.
-pub fn put_count(out: &mut [u8], at: usize, name: &[u8], n: usize) -> usize
+pub fn put_number_line(out: &mut [u8], at: usize, name: &[u8], n: usize) -> usize
     ensures { λ r. ⌜ r ≡ past (now (out .entry)) at (line (now (name .entry) ∷ decimal n ∷ [])) ⌝ }
     ensures { λ _. ⌜ now (out .exit) ≡ sets (now (out .entry)) at (line (now (name .entry) ∷ decimal n ∷ [])) ⌝ }
 {
@@ -45,7 +45,7 @@ fn put_equilibria(out: &mut [u8], at: usize, counts: &[usize], payoffs: &[f64]) 
     match pure_nash::equilibria(counts, payoffs, &mut choices, &mut utilities) {
         UsizeResult::Err(_) => at,
         UsizeResult::Ok(number) => {
-            let place = put_count(out, at, b"equilibria", number);
+            let place = put_number_line(out, at, b"equilibria", number);
             report_lines::put_entries(out, place, &choices, &utilities, counts.len(), number)
         }
     }
@@ -60,12 +60,12 @@ fn put_struck(out: &mut [u8], at: usize, counts: &[usize], payoffs: &[f64]) -> u
     let mut struck = [0usize; MOST_NUMBERS];
     let swept = sweeps::sweeps(counts, payoffs, &mut struck);
     let number = swept.end / STRIKE_NUMBERS;
-    let place = put_count(out, at, b"struck", number);
+    let place = put_number_line(out, at, b"struck", number);
     report_lines::put_lines(out, place, &struck, STRIKE_NUMBERS, number)
 }
 
 // Puts the line of the catalogue's number.
-fn put_number(out: &mut [u8], at: usize, counts: &[usize], payoffs: &[f64]) -> usize
+fn put_catalogue(out: &mut [u8], at: usize, counts: &[usize], payoffs: &[f64]) -> usize
     requires { ⌜ Table (now counts) (now payoffs) ⌝ }
     ensures { λ r. ⌜ r ≡ past (now (out .entry)) at (catalogueLine (gameNumber catalogue (tableGame (now (counts .entry)) (now (payoffs .entry))))) ⌝ }
     ensures { λ _. ⌜ now (out .exit) ≡ sets (now (out .entry)) at (catalogueLine (gameNumber catalogue (tableGame (now (counts .entry)) (now (payoffs .entry))))) ⌝ }
@@ -74,7 +74,7 @@ fn put_number(out: &mut [u8], at: usize, counts: &[usize], payoffs: &[f64]) -> u
         NumberResult::Err(_) => at,
         NumberResult::Ok(number) => match number {
             UsizeOption::None => text::put(out, at, b"catalogue none\n"),
-            UsizeOption::Some(n) => put_count(out, at, b"catalogue", n),
+            UsizeOption::Some(n) => put_number_line(out, at, b"catalogue", n),
         },
     }
 }
@@ -87,9 +87,9 @@ pub fn put_table(out: &mut [u8], counts: &[usize], payoffs: &[f64]) -> usize
     ensures { λ r. ⌜ r ≡ past (now (out .entry)) 0 (tableReport (now (counts .entry)) (now (payoffs .entry))) ⌝ }
     ensures { λ _. ⌜ now (out .exit) ≡ sets (now (out .entry)) 0 (tableReport (now (counts .entry)) (now (payoffs .entry))) ⌝ }
 {
-    let mut place = put_count(out, 0, b"players", counts.len());
+    let mut place = put_number_line(out, 0, b"players", counts.len());
     place = text::put_labelled(out, place, b"counts", counts);
     place = put_equilibria(out, place, counts, payoffs);
     place = put_struck(out, place, counts, payoffs);
-    put_number(out, place, counts, payoffs)
+    put_catalogue(out, place, counts, payoffs)
 }

@@ -36,7 +36,7 @@ use Rattle.report_input.proofs.Input.{input-accepted}
 use Rattle.report_lines.specs.Lines.{bitsWord, entryLine, numbersLine}
 use Rattle.sweeps.specs.Sweeps.{Strike, strikeNumbers, sweeps}
 use Rattle.sweeps.proofs.Ends.{sweeps-done}
-use Rattle.report_table.specs.Report.{word, numberLine, listed, catalogueLine, equilibriumLine, equilibriaText, struckText, tableReport}
+use Rattle.report_table.specs.Report.{codes, numberLine, listed, catalogueLine, equilibriumLine, equilibriaText, struckText, tableReport}
 use Rattle.report_text.specs.Report.{toldReport, report, maxReportBytes}
 use Rattle.report_table.proofs.Lists.{profile, equilibria-fit, strikes-few}
 
@@ -72,13 +72,13 @@ two-digits n h = decimal-short n 2 (omega arith) (omega (arith, h))
 numbers-short : (ns : List ℕ) → ((i : ℕ) → i < length ns → getD ns i 0 ≤ maxStrategies) → length (spaced (map decimal ns)) ≤ 3 * length ns
 numbers-short ns h = spaced-short decimal 2 0 ns (λ i l. two-digits (getD ns i 0) (h i l))
 
-number-short : (name : String) (n j : ℕ) → 1 ≤ j → n < 10 ^ j → length (numberLine name n) ≤ length (word name) + j + 2
+number-short : (name : String) (n j : ℕ) → 1 ≤ j → n < 10 ^ j → length (numberLine name n) ≤ length (codes name) + j + 2
 unfolding numberLine spaced flatMap
 number-short name n j h l =
-    omega (arith, line-spaced (word name) (decimal n ∷ []), spaced-cons (word name) (decimal n ∷ []), spaced-cons (decimal n) [], decimal-short n j h l)
+    omega (arith, line-spaced (codes name) (decimal n ∷ []), spaced-cons (codes name) (decimal n ∷ []), spaced-cons (decimal n) [], decimal-short n j h l)
 
 listed-short : {A : Type 0} (name : String) (f : A → List ℕ) (n j : ℕ) (xs : List A) → 1 ≤ j → length xs < 10 ^ j
-    → ((x : A) → x ∈ xs → length (f x) ≤ n) → length (listed name f xs) ≤ length (word name) + j + 2 + n * length xs
+    → ((x : A) → x ∈ xs → length (f x) ≤ n) → length (listed name f xs) ≤ length (codes name) + j + 2 + n * length xs
 listed-short name f n j xs h l k =
     omega (arith, length-append (numberLine name (length xs)) (flatMap f xs), number-short name (length xs) j h l, flat-short f n xs k)
 
@@ -169,12 +169,12 @@ module _ (counts : List ℕ) (payoffs : List Float) (t : Table counts payoffs) w
         few,
       )
 
-  counts-short : length (line (word "counts" ∷ map decimal counts)) ≤ 31
+  counts-short : length (line (codes "counts" ∷ map decimal counts)) ≤ 31
   counts-short =
       omega (
         arith,
-        line-spaced (word "counts") (map decimal counts),
-        spaced-cons (word "counts") (map decimal counts),
+        line-spaced (codes "counts") (map decimal counts),
+        spaced-cons (codes "counts") (map decimal counts),
         numbers-short counts (t .shape .high),
         t .shape .few,
       )
@@ -186,7 +186,7 @@ pub table-size : (counts : List ℕ) (payoffs : List Float) → Table counts pay
 unfolding tableReport
 table-size counts payoffs t h =
     let a = numberLine "players" (length counts) in
-    let b = line (word "counts" ∷ map decimal counts) in
+    let b = line (codes "counts" ∷ map decimal counts) in
     let c = equilibriaText counts payoffs in
     let d = struckText counts payoffs in
     let e = catalogueLine (gameNumber catalogue (tableGame counts payoffs)) in

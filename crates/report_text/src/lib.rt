@@ -1,7 +1,7 @@
 // The report on a deposit file: from the file's bytes to the report's, as specs/Report defines it.
 use refusal::UsizeResult;
 use report_input::MAX_REPORT_CELLS;
-use report_table::put_count;
+use report_table::put_number_line;
 use report_table::put_table;
 use table::MAX_MARKS;
 use table::MAX_PLAYERS;
@@ -46,7 +46,7 @@ pub fn report(bytes: &[u8], out: &mut [u8; MAX_REPORT_BYTES]) -> usize
     let mut counts = [0usize; MAX_PLAYERS];
     let mut payoffs = [0.0f64; MAX_REPORT_CELLS];
     match report_input::read(bytes, &mut counts, &mut payoffs) {
-        UsizeResult::Err(e) => put_count(out, 0, b"refused", e.number() as usize),
+        UsizeResult::Err(e) => put_number_line(out, 0, b"refused", e.number() as usize),
         UsizeResult::Ok(players) => put_read(out, players, &counts, &payoffs),
     }
 }

@@ -1,8 +1,8 @@
 -- The digits of a number: how many there are, and what they stand for. Assumes nothing.
 use mathlib.Core.Path.{_≡_, refl, sym, ap, ap₂, _∙_, subst, subst⁻¹}
 use mathlib.Core.Bool.{Bool, true, false, cond}
-use mathlib.Core.List.{List, [], _∷_, _++_}
-use mathlib.Core.Logic.{⊎-elim}
+use mathlib.Core.List.{List, [], _∷_, _++_, List·Memᴰ·not-nil as not-in-nil, List·Memᴰ·append-cases as in-append, List·Memᴰ·eq-of-singleton as in-singleton}
+use mathlib.Core.Logic.{_⊎_, inl, inr, ⊎-elim}
 use Prim.Native.Nat.{ℕ, zero, suc, _+_, _-_, _*_, _/_, _%_, _^_, _≤_, _<_}
 use native.Mathlib.Nat.{pow-zero, pow-suc, pow-le-pow-right, div-add-mod', mod-lt, div-lt-iff-lt-mul, le-div-iff-mul-le, div-lt-self}
 use native.Mathlib.Omega.{arith}
@@ -10,6 +10,7 @@ use borrow.Author.Tests.{ltb-true, ltb-false, lt-ltb, le-ltb}
 use lib.Dec.{ltb}
 use lib.ListN.{length, length-append}
 use Rattle.io.specs.Digits.{glyph, digits, Fewest}
+use Rattle.game.specs.Finite.{_∈_}
 use Rattle.game.proofs.Finite.{le-or-lt, at-most}
 use Rattle.text.specs.Text.{widthWithin, decimal, hexadecimal}
 use Rattle.text.specs.Meaning.{digitValue, valueFrom, value}
@@ -120,3 +121,28 @@ decimal-value n = digits-value 10 (widthWithin n n) n (omega arith) (omega arith
 pub hexadecimal-value : (n : ℕ) → n < 2 ^ 64 → value 16 (hexadecimal n) ≡ n
 unfolding hexadecimal
 hexadecimal-value n h = digits-value 16 16 n (omega arith) (omega arith) h
+
+-- ---- which characters they are
+
+digits-glyphs : (b k n g : ℕ) → 0 < b → g ∈ digits b k n → (d : ℕ) × (d < b) × (g ≡ glyph d)
+digits-glyphs b zero n g h m = absurd (not-in-nil m)
+digits-glyphs b (suc k) n g h m =
+    ⊎-elim (digits-glyphs b k (n / b) g h) (λ l. (n % b, mod-lt n h, in-singleton l)) (in-append (digits b k (n / b)) m)
+
+-- `0` to `9`
+pub decimal-digits : (n g : ℕ) → g ∈ decimal n → (48 ≤ g) × (g < 58)
+unfolding decimal
+decimal-digits n g m =
+    let (d, l, e) = digits-glyphs 10 (widthWithin n n) n g (omega arith) m in
+    let is = ap (λ (b : Bool). cond b (48 + d) (87 + d)) (lt-ltb d 10 l) in
+    (omega (arith, e, is), omega (arith, e, is, l))
+
+-- `0` to `9` and `a` to `f`
+pub hexadecimal-digits : (n g : ℕ) → g ∈ hexadecimal n → ((48 ≤ g) × (g < 58)) ⊎ ((97 ≤ g) × (g < 103))
+unfolding hexadecimal
+hexadecimal-digits n g m =
+    let (d, l, e) = digits-glyphs 16 16 n g (omega arith) m in
+    ⊎-elim
+    (λ (k : 10 ≤ d). let is = ap (λ (b : Bool). cond b (48 + d) (87 + d)) (le-ltb d 10 k) in inr (omega (arith, e, is, k), omega (arith, e, is, l)))
+    (λ k. let is = ap (λ (b : Bool). cond b (48 + d) (87 + d)) (lt-ltb d 10 k) in inl (omega (arith, e, is), omega (arith, e, is, k)))
+    (le-or-lt 10 d)

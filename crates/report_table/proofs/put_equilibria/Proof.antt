@@ -21,7 +21,7 @@ use Rattle.pure_nash.proofs.Listing.{listing-all}
 use Rattle.text.specs.Text.{decimal, line}
 use Rattle.text.proofs.Puts.{puts-more, puts-same, puts-length}
 use Rattle.report_lines.specs.Lines.{entryLines}
-use Rattle.report_table.specs.Report.{word, numberLine, equilibriumLine, equilibriaText}
+use Rattle.report_table.specs.Report.{codes, numberLine, equilibriumLine, equilibriaText}
 use Rattle.report_table.proofs.Lists.{begins-with, equilibria-fit, choices-length, utilities-length, utilities-finite, equilibria-lines}
 use Rattle.report_table.proofs.put_equilibria.Statement.{statement}
 use Rattle.report_table.proofs.put_equilibria.Tie as tie
@@ -41,11 +41,11 @@ enum-told c = search needs
 enum-known-number : tie.Need-enum-known-number
 enum-known-number c = search needs
 
-slice-aggregate-put-count : tie.Need-slice-aggregate-put-count
-slice-aggregate-put-count c = search needs
+slice-aggregate-put-number-line : tie.Need-slice-aggregate-put-number-line
+slice-aggregate-put-number-line c = search needs
 
-put-count-requires : tie.Need-put-count-requires
-put-count-requires c κs = search needs
+put-number-line-requires : tie.Need-put-number-line-requires
+put-number-line-requires c κs = search needs
 
 slice-aggregate-put-entries : tie.Need-slice-aggregate-put-entries
 slice-aggregate-put-entries c = search needs
@@ -130,7 +130,7 @@ put-entries-requires c κs =
     let e = listed n .0 in
     let a = start k .args in
     let head = c .before .before .before .before .before in
-    let text = line (word "equilibria" ∷ decimal (n .number .given .0 .0) ∷ []) in
+    let text = line (codes "equilibria" ∷ decimal (n .number .given .0 .0) ∷ []) in
     let finites : (i : ℕ) → i < n .number .given .0 .0 * length (counts k) → T (finite (getD (utilities n) i nan)) =
     λ i l.
     let (us, u) = utilities-are n in
@@ -138,7 +138,7 @@ put-entries-requires c κs =
     subst (λ (xs : List Float). T (finite (getD xs i nan))) (sym u) (utilities-finite (counts k) (payoffs k) t us i h) in (
       t .shape .some,
       (
-        omega (arith, head .put-count .ensures .0, puts-length (a .out .now) (a .at) text (head .put-count .ensures)),
+        omega (arith, head .put-number-line .ensures .0, puts-length (a .out .now) (a .at) text (head .put-number-line .ensures)),
         ((rw e (many n .0), rw e (many n .1)), finites),
       ),
     )
@@ -155,7 +155,7 @@ returns-2 c =
     let k = call n in
     let a = start k .args in
     let e = listed n .0 in
-    let one : ℕ → List ℕ = λ m. line (word "equilibria" ∷ decimal m ∷ []) in
+    let one : ℕ → List ℕ = λ m. line (codes "equilibria" ∷ decimal m ∷ []) in
     let m = n .number .given .0 .0 in
     let p = length (counts k) in
     let (cs, c) = choices-are n in
@@ -165,7 +165,7 @@ returns-2 c =
     ∙ ap₂ (λ (xs : List ℕ) (ys : List Float). entryLines p (number k) xs ys) c u
     ∙ equilibria-lines (counts k) (payoffs k) (start k .pre .0) cs us in
     puts-same (a .out .now) (a .at) (ap₂ (λ (xs ys : List ℕ). xs ++ ys) (ap one e) lines-are)
-    (puts-more (a .out .now) (a .at) (one m) (entryLines p m (choices n) (utilities n)) (head .put-count .ensures) (end .put-entries .ensures))
+    (puts-more (a .out .now) (a .at) (one m) (entryLines p m (choices n) (utilities n)) (head .put-number-line .ensures) (end .put-entries .ensures))
 
 pub put-equilibria-spec : {M : Type 1} → statement M
 put-equilibria-spec =
@@ -176,8 +176,8 @@ put-equilibria-spec =
     equilibria-requires
     enum-told
     enum-known-number
-    slice-aggregate-put-count
-    put-count-requires
+    slice-aggregate-put-number-line
+    put-number-line-requires
     slice-aggregate-put-entries
     slice-aggregate-put-entries-2
     put-entries-requires

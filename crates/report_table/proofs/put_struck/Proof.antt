@@ -12,7 +12,7 @@ use Rattle.text.specs.Text.{decimal, line}
 use Rattle.text.proofs.Puts.{Puts, puts-more, puts-same}
 use Rattle.report_lines.specs.Lines.{numbersLine, numbersLines}
 use Rattle.sweeps.specs.Sweeps.{Strike, strikeNumbers, strikesNumbers, sweeps}
-use Rattle.report_table.specs.Report.{word, numberLine, struckText}
+use Rattle.report_table.specs.Report.{codes, numberLine, struckText}
 use Rattle.report_table.proofs.Lists.{strikes-length, strikes-lines, strikes-few}
 use Rattle.report_table.proofs.put_struck.Statement.{statement}
 use Rattle.report_table.proofs.put_struck.Tie as tie
@@ -23,11 +23,11 @@ slice-aggregate-sweeps c = search needs
 sweeps-requires : tie.Need-sweeps-requires
 sweeps-requires c κs = search needs
 
-slice-aggregate-put-count : tie.Need-slice-aggregate-put-count
-slice-aggregate-put-count c = search needs
+slice-aggregate-put-number-line : tie.Need-slice-aggregate-put-number-line
+slice-aggregate-put-number-line c = search needs
 
-put-count-requires : tie.Need-put-count-requires
-put-count-requires c κs = search needs
+put-number-line-requires : tie.Need-put-number-line-requires
+put-number-line-requires c κs = search needs
 
 slice-aggregate-put-lines : tie.Need-slice-aggregate-put-lines
 slice-aggregate-put-lines c = search needs
@@ -55,7 +55,7 @@ module _ (c : tie.After-slice-known3) where
   abbrev lines : tie.After-put-lines
   lines = c .before .before
 
-  abbrev head : tie.After-put-count
+  abbrev head : tie.After-put-number-line
   head = lines .before .before .before .before .before
 
   abbrev call : tie.After-sweeps
@@ -66,14 +66,14 @@ module _ (c : tie.After-slice-known3) where
   put-all =
       let old = start call .args .out .now in
       let at = start call .args .at in
-      let one : ℕ → List ℕ = λ n. line (word "struck" ∷ decimal n ∷ []) in
+      let one : ℕ → List ℕ = λ n. line (codes "struck" ∷ decimal n ∷ []) in
       let n = call .sweeps .result .end / 3 in
       let e = number-is call in
       let more = flatMap (λ k. numbersLine (strikeNumbers k)) (ks call) in
       let lines-are : numbersLines 3 n (call .sweeps .last .1 .1 .0) ≡ more =
       ap₂ (numbersLines 3) e (call .sweeps .ensures .1 .1 .0) ∙ strikes-lines (ks call) (record { struck = strategy 0 0; dominator = 0 }) (replicate 1536 0) (fits call) in
       puts-same old at (ap₂ (λ (xs ys : List ℕ). xs ++ ys) (ap one e) lines-are)
-      (puts-more old at (one n) (numbersLines 3 n (call .sweeps .last .1 .1 .0)) (head .put-count .ensures) (lines .put-lines .ensures))
+      (puts-more old at (one n) (numbersLines 3 n (call .sweeps .last .1 .1 .0)) (head .put-number-line .ensures) (lines .put-lines .ensures))
 
 same-length : tie.Need-same-length
 same-length c = search needs
@@ -87,8 +87,8 @@ put-struck-spec =
     (tie.spec
     slice-aggregate-sweeps
     sweeps-requires
-    slice-aggregate-put-count
-    put-count-requires
+    slice-aggregate-put-number-line
+    put-number-line-requires
     slice-aggregate-put-lines
     put-lines-requires
     same-length

@@ -9,15 +9,15 @@ use Rattle.catalogue.specs.Catalogue.{catalogue}
 use Rattle.catalogue.specs.Answers.{gameNumber}
 use Rattle.text.specs.Text.{decimal, line}
 use Rattle.text.proofs.Puts.{Puts, puts-more, puts-length}
-use Rattle.report_table.specs.Report.{word, numberLine, catalogueLine, equilibriaText, struckText, tableReport}
+use Rattle.report_table.specs.Report.{codes, numberLine, catalogueLine, equilibriaText, struckText, tableReport}
 use Rattle.report_table.proofs.put_table.Statement.{statement}
 use Rattle.report_table.proofs.put_table.Tie as tie
 
-slice-aggregate-put-count : tie.Need-slice-aggregate-put-count
-slice-aggregate-put-count c = search needs
+slice-aggregate-put-number-line : tie.Need-slice-aggregate-put-number-line
+slice-aggregate-put-number-line c = search needs
 
-put-count-requires : tie.Need-put-count-requires
-put-count-requires c κs = search needs
+put-number-line-requires : tie.Need-put-number-line-requires
+put-number-line-requires c κs = search needs
 
 slice-aggregate-put-labelled : tie.Need-slice-aggregate-put-labelled
 slice-aggregate-put-labelled c = search needs
@@ -31,11 +31,11 @@ put-equilibria-requires c κs = search needs
 put-struck-requires : tie.Need-put-struck-requires
 put-struck-requires c κs = search needs
 
-put-number-requires : tie.Need-put-number-requires
-put-number-requires c κs = search needs
+put-catalogue-requires : tie.Need-put-catalogue-requires
+put-catalogue-requires c κs = search needs
 
 module _ (c : tie.After-slice-known6) where
-  abbrev last : tie.After-put-number
+  abbrev last : tie.After-put-catalogue
   last = c .before .before
 
   abbrev struck : tie.After-put-struck
@@ -47,7 +47,7 @@ module _ (c : tie.After-slice-known6) where
   abbrev second : tie.After-put-labelled
   second = listed .before .before .before .before
 
-  abbrev first : tie.After-put-count
+  abbrev first : tie.After-put-number-line
   first = second .before .before .before .before .before
 
   abbrev start : tie.Start
@@ -62,18 +62,18 @@ module _ (c : tie.After-slice-known6) where
   abbrev payoffs : List Float
   payoffs = start .args .payoffs .now
 
-  put-all : Puts old 0 (tableReport counts payoffs) (last .put-number .result) (last .put-number .last .0)
+  put-all : Puts old 0 (tableReport counts payoffs) (last .put-catalogue .result) (last .put-catalogue .last .0)
   unfolding tableReport numberLine
   put-all =
-      let a = line (word "players" ∷ decimal (length counts) ∷ []) in
-      let b = line (word "counts" ∷ map decimal counts) in
+      let a = line (codes "players" ∷ decimal (length counts) ∷ []) in
+      let b = line (codes "counts" ∷ map decimal counts) in
       let e = equilibriaText counts payoffs in
       let s = struckText counts payoffs in
       puts-more old 0 (a ++ b ++ e ++ s) (catalogueLine (gameNumber catalogue (tableGame counts payoffs)))
       (puts-more old 0 (a ++ b ++ e) s
-      (puts-more old 0 (a ++ b) e (puts-more old 0 a b (first .put-count .ensures) (second .put-labelled .ensures)) (listed .put-equilibria .ensures))
+      (puts-more old 0 (a ++ b) e (puts-more old 0 a b (first .put-number-line .ensures) (second .put-labelled .ensures)) (listed .put-equilibria .ensures))
       (struck .put-struck .ensures))
-      (last .put-number .ensures)
+      (last .put-catalogue .ensures)
 
 same-length : tie.Need-same-length
 same-length c = puts-length (old c) 0 (tableReport (counts c) (payoffs c)) (put-all c)
@@ -85,12 +85,12 @@ pub put-table-spec : {M : Type 1} → statement M
 put-table-spec =
     tie.close
     (tie.spec
-    slice-aggregate-put-count
-    put-count-requires
+    slice-aggregate-put-number-line
+    put-number-line-requires
     slice-aggregate-put-labelled
     put-labelled-requires
     put-equilibria-requires
     put-struck-requires
-    put-number-requires
+    put-catalogue-requires
     same-length
     returns)

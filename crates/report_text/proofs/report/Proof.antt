@@ -27,17 +27,17 @@ read-requires c κs = search needs
 enum-known-e : tie.Need-enum-known-e
 enum-known-e c = search needs
 
-slice-aggregate-put-count : tie.Need-slice-aggregate-put-count
-slice-aggregate-put-count c = search needs
+slice-aggregate-put-number-line : tie.Need-slice-aggregate-put-number-line
+slice-aggregate-put-number-line c = search needs
 
 number-requires : tie.Need-number-requires
 number-requires c κs = search needs
 
-cast-put-count : tie.Need-cast-put-count
-cast-put-count c = search needs
+cast-put-number-line : tie.Need-cast-put-number-line
+cast-put-number-line c = search needs
 
-put-count-requires : tie.Need-put-count-requires
-put-count-requires c κs = search needs
+put-number-line-requires : tie.Need-put-number-line-requires
+put-number-line-requires c κs = search needs
 
 enum-known-players : tie.Need-enum-known-players
 enum-known-players c = search needs
@@ -120,9 +120,9 @@ returns c =
     let out = start k .args .out .now in
     let number = numberOf (e .e .given .0 .0) in
     let is = report-refused (bytes k) number (sym (ap toldUsize (e .e .given .1)) ∙ k .read .ensures .0) in
-    let room : length (report (bytes k)) ≤ length out = omega (arith, fits k, c .before .before .before .put-count-arg .given .0 .1) in
-    put-whole out (report (bytes k)) (c .put-count .result) (c .put-count .last .0) room
-    (puts-same out 0 (ap (λ (n : ℕ). toldReport (refused n)) (c .before .number .ensures) ∙ is) (c .put-count .ensures))
+    let room : length (report (bytes k)) ≤ length out = omega (arith, fits k, c .before .before .before .put-number-line-arg .given .0 .1) in
+    put-whole out (report (bytes k)) (c .put-number-line .result) (c .put-number-line .last .0) room
+    (puts-same out 0 (ap (λ (n : ℕ). toldReport (refused n)) (c .before .number .ensures) ∙ is) (c .put-number-line .ensures))
 
 returns-2 : tie.Need-returns-2
 returns-2 c =
@@ -142,10 +142,10 @@ report-spec =
     (tie.spec
     read-requires
     enum-known-e
-    slice-aggregate-put-count
+    slice-aggregate-put-number-line
     number-requires
-    cast-put-count
-    put-count-requires
+    cast-put-number-line
+    put-number-line-requires
     enum-known-players
     slice-aggregate-put-read
     slice-aggregate-put-read-2

@@ -1,4 +1,4 @@
--- `report_table::put_number` meets its contract: the table has no refusal, so a number or none was told. Assumes nothing.
+-- `report_table::put_catalogue` meets its contract: the table has no refusal, so a number or none was told. Assumes nothing.
 use mathlib.Core.Path.{_≡_, sym, ap, _∙_}
 use mathlib.Core.List.{flatMap}
 use mathlib.Core.Option.{Option, none, some}
@@ -14,8 +14,8 @@ use Rattle.catalogue.specs.Answers.{gameNumber, numberAnswer, toldNumber}
 use Rattle.text.specs.Text.{spaced, joined, line}
 use Rattle.text.proofs.Puts.{puts-same}
 use Rattle.report_table.specs.Report.{numberLine, catalogueLine}
-use Rattle.report_table.proofs.put_number.Statement.{statement}
-use Rattle.report_table.proofs.put_number.Tie as tie
+use Rattle.report_table.proofs.put_catalogue.Statement.{statement}
+use Rattle.report_table.proofs.put_catalogue.Tie as tie
 
 number-requires : tie.Need-number-requires
 number-requires c κs = search needs
@@ -38,11 +38,11 @@ put-requires c κs = search needs
 enum-known-number-2 : tie.Need-enum-known-number-2
 enum-known-number-2 c = search needs
 
-slice-aggregate-put-count : tie.Need-slice-aggregate-put-count
-slice-aggregate-put-count c = search needs
+slice-aggregate-put-number-line : tie.Need-slice-aggregate-put-number-line
+slice-aggregate-put-number-line c = search needs
 
-put-count-requires : tie.Need-put-count-requires
-put-count-requires c κs = search needs
+put-number-line-requires : tie.Need-put-number-line-requires
+put-number-line-requires c κs = search needs
 
 module _ (k : tie.After-number) where
   abbrev start : tie.Start
@@ -94,10 +94,10 @@ returns-3 c =
     let n = o .before .before .before in
     let a = start (call n) .args in
     let m = o .number3 .given .0 .0 in
-    puts-same (a .out .now) (a .at) (ap catalogueLine (number-is n (some m) (ap optionUsize (o .number3 .given .1)))) (p .put-count .ensures)
+    puts-same (a .out .now) (a .at) (ap catalogueLine (number-is n (some m) (ap optionUsize (o .number3 .given .1)))) (p .put-number-line .ensures)
 
-pub put-number-spec : {M : Type 1} → statement M
-put-number-spec =
+pub put-catalogue-spec : {M : Type 1} → statement M
+put-catalogue-spec =
     tie.close
     (tie.spec
     number-requires
@@ -107,8 +107,8 @@ put-number-spec =
     slice-aggregate-put
     put-requires
     enum-known-number-2
-    slice-aggregate-put-count
-    put-count-requires
+    slice-aggregate-put-number-line
+    put-number-line-requires
     returns
     same-length
     returns-2
