@@ -15,11 +15,10 @@ ghost use Rattle.report_lines.specs.Lines.{bitsWord, entryLine, numbersL
 // Puts each payoff's bits in hexadecimal digits, after a space.
 fn put_bits(out: &mut [u8], at: usize, utilities: &[f64]) -> usize
     requires { ⌜ Finites (now utilities) ⌝ }
-    requires { ⌜ at ≤ length (now out) ⌝ }
     ensures { λ r. ⌜ r ≡ past (now (out .entry)) at (spaced (map bitsWord (now (utilities .entry)))) ⌝ }
     ensures { λ _. ⌜ now (out .exit) ≡ sets (now (out .entry)) at (spaced (map bitsWord (now (utilities .entry)))) ⌝ }
 {
-    let mut place = at;
+    let mut place = outputs::within(out.len(), at);
     let mut i = 0;
     while i < utilities.len() {
         place = outputs::put_byte(out, place, b' ');
@@ -41,8 +40,8 @@ fn put_entry(out: &mut [u8], at: usize, choices: &[usize], utilities: &[f64]) ->
     outputs::put_byte(out, place, b'\n')
 }
 
-// Puts the lines of `number` equilibria, whose choices and payoffs stand one after the other, `players` of each. The caller proves that the
-// place is within the output, that there is a player, that the slices have so many, and that the payoffs are finite.
+// Puts the lines of `number` equilibria, whose choices and payoffs stand one after the other, `players` of each. The caller proves that there is a
+// player, that the slices have so many, and that the payoffs are finite.
 pub fn put_entries(
     out: &mut [u8],
     at: usize,
@@ -52,13 +51,12 @@ pub fn put_entries(
     number: usize,
 ) -> usize
     requires { ⌜ 0 < players ⌝ }
-    requires { ⌜ at ≤ length (now out) ⌝ }
     requires { ⌜ (number * players ≤ length (now choices)) × (number * players ≤ length (now utilities)) ⌝ }
     requires { ⌜ ((i : ℕ) → i < number * players → T (finite (getD (now utilities) i nan))) ⌝ }
     ensures { λ r. ⌜ r ≡ past (now (out .entry)) at (entryLines players number (now (choices .entry)) (now (utilities .entry))) ⌝ }
     ensures { λ _. ⌜ now (out .exit) ≡ sets (now (out .entry)) at (entryLines players number (now (choices .entry)) (now (utilities .entry))) ⌝ }
 {
-    let mut place = at;
+    let mut place = outputs::within(out.len(), at);
     let mut i = 0;
     while i < number {
         let from = i * players;
@@ -78,15 +76,13 @@ fn put_line(out: &mut [u8], at: usize, numbers: &[usize]) -> usize
     outputs::put_byte(out, place, b'\n')
 }
 
-// Puts `number` lines of `width` numbers, which stand one after the other. The caller proves that the place is within the output, and that
-// there are so many.
+// Puts `number` lines of `width` numbers, which stand one after the other. The caller proves that there are so many.
 pub fn put_lines(out: &mut [u8], at: usize, numbers: &[usize], width: usize, number: usize) -> usize
-    requires { ⌜ at ≤ length (now out) ⌝ }
     requires { ⌜ number * width ≤ length (now numbers) ⌝ }
     ensures { λ r. ⌜ r ≡ past (now (out .entry)) at (numbersLines width number (now (numbers .entry))) ⌝ }
     ensures { λ _. ⌜ now (out .exit) ≡ sets (now (out .entry)) at (numbersLines width number (now (numbers .entry))) ⌝ }
 {
-    let mut place = at;
+    let mut place = outputs::within(out.len(), at);
     let mut i = 0;
     while i < number {
         let from = i * width;

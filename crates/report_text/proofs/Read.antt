@@ -19,7 +19,7 @@ use Rattle.table.proofs.Outputs.{over-length}
 use Rattle.words.specs.Words.{Bytes, wordsOf}
 use Rattle.deposit.specs.Deposit.{countsIn, payoffsIn}
 use Rattle.outputs.proofs.Put.{past-all, sets-all}
-use Rattle.text.proofs.Puts.{Puts}
+use Rattle.outputs.specs.Put.{Puts}
 use Rattle.report_input.specs.Input.{maxReportCells, inputRefusal, inputTable}
 use Rattle.report_input.proofs.Input.{input-accepted}
 use Rattle.report_table.specs.Report.{tableReport}

@@ -1,11 +1,11 @@
 -- How the calls that the functions of this crate make add up: those of two runs, and those of the sweeps. Assumes nothing.
-use mathlib.Core.Path.{_≡_, refl, sym, ap, ap₂, _∙_, subst, subst⁻¹}
+use mathlib.Core.Path.{_≡_, refl, sym, ap, _∙_, subst, subst⁻¹}
 use mathlib.Core.Bool.{Bool, true, false, not, cond, _||_}
 use mathlib.Core.List.{List, [], _∷_, _++_, flatMap, append-assoc, append-nil}
 use Prim.Native.Nat.{ℕ, _+_, _≤_, _<_}
 use native.Mathlib.Omega.{arith}
 use lib.ListN.{length}
-use lib.Seq.{sets, length-sets}
+use lib.Seq.{sets}
 use lib.Ieee.{Float}
 use Rattle.game.specs.Finite.{empty}
 use Rattle.game.specs.Game.{Strategy}
@@ -16,12 +16,12 @@ use Rattle.survivors.specs.Survivors.{markCount, freshOf}
 use Rattle.survivor_calls.specs.Answers.{handedBack, strikeAnswer, strikeLeaves}
 use Rattle.strike_lists.specs.Answers.{chainFrom}
 use Rattle.strike_lists.proofs.Chain.{Good, fresh-good, ran}
-use Rattle.outputs.specs.Put.{past}
-use Rattle.outputs.proofs.Put.{sets-more, past-more, past-none}
+use Rattle.outputs.specs.Put.{past, Puts}
+use Rattle.outputs.proofs.Put.{puts-none, puts-more, puts-same, puts-length, puts-within}
 use Rattle.sweeps.specs.declared.Progress.{Progress}
 use Rattle.sweeps.specs.Sweeps.{Strike, struckBy, sweepCalls, struckIn, sweeps, strikeNumbers, strikesNumbers}
 use Rattle.sweeps.specs.Meaning.{Sweeps, ended}
-use Rattle.sweeps.specs.Progress.{Put, Reached, Ready, Runs}
+use Rattle.sweeps.specs.Progress.{Reached, Ready, Runs}
 use Rattle.sweeps.proofs.Strikes.{strikeOf, left-append, struck-append, unstruck}
 use Rattle.sweeps.proofs.Ends.{sweeps-once, sweeps-more, sweep-counted, sweeps-done}
 
@@ -38,26 +38,6 @@ any-append [] ls b = refl
 any-append (k ∷ ks) [] b = refl
 any-append (k ∷ ks) (l ∷ ls) b = refl
 
--- ---- what is put
-
-pub put-none : (old : List ℕ) (at : ℕ) → at ≤ length old → Put [] old at old at
-put-none old at h = record { place = sym (past-none old at h); output = refl }
-
--- lists put one after the other are one list put
-pub put-append : {xs ys old mid new : List ℕ} {at m n : ℕ} → Put xs old at mid m → Put ys mid m new n → Put (xs ++ ys) old at new n
-put-append {xs} {ys} {old} {at = at} a b =
-    record {
-      place = b .place ∙ ap₂ (λ (l : List ℕ) (k : ℕ). past l k ys) (a .output) (a .place) ∙ past-more old at xs ys;
-      output = b .output ∙ ap₂ (λ (l : List ℕ) (k : ℕ). sets l k ys) (a .output) (a .place) ∙ sets-more old at xs ys;
-    }
-
-module _ {xs old new : List ℕ} {at end : ℕ} (p : Put xs old at new end) where
-  pub put-length : length new ≡ length old
-  put-length = ap length (p .output) ∙ length-sets old at xs
-
-  pub put-inside : end ≤ length new
-  put-inside = omega (arith, p .place, put-length)
-
 module _ (counts : List ℕ) (payoffs : List Float) where
   -- ---- survivors that are reached
 
@@ -72,20 +52,20 @@ module _ (counts : List ℕ) (payoffs : List Float) where
 
   pub runs-none : (p : Progress) (old : List ℕ) → p .end ≤ length old → Runs counts payoffs [] p old p old
   unfolding strikesNumbers flatMap
-  runs-none p old h = record { survivors = refl; any = refl; put = put-none old (p .end) h }
+  runs-none p old h = record { survivors = refl; any = refl; put = puts-none old (p .end) (omega (arith, h)) }
 
   -- one call, with the answer a
   pub runs-one : (p r : Progress) (old new : List ℕ) (c : Strategy) (a : Told ℕ) → strikeAnswer counts payoffs (p .survivors) c ≡ a
       → r .survivors ≡ handedBack (p .survivors) c a
       → r .any ≡ not (empty (strikeOf c a)) || p .any
-      → Put (strikesNumbers (strikeOf c a)) old (p .end) new (r .end)
+      → Puts old (p .end) (strikesNumbers (strikeOf c a)) (r .end) new
       → Runs counts payoffs (c ∷ []) p old r new
   unfolding strikeLeaves
   runs-one p r old new c a is left any put =
       record {
         survivors = left ∙ sym (ap (handedBack (p .survivors) c) is);
         any = any ∙ sym (ap (λ (a : Told ℕ). not (empty (strikeOf c a)) || p .any) is);
-        put = subst⁻¹ (λ (a : Told ℕ). Put (strikesNumbers (strikeOf c a)) old (p .end) new (r .end)) is put;
+        put = subst⁻¹ (λ (a : Told ℕ). Puts old (p .end) (strikesNumbers (strikeOf c a)) (r .end) new) is put;
       }
 
   module _ {p q : Progress} {old mid : List ℕ} {cs : List Strategy} (a : Runs counts payoffs cs p old q mid) where
@@ -96,8 +76,12 @@ module _ (counts : List ℕ) (payoffs : List Float) where
           table = k .table;
           number = k .number;
           reached = rw (a .survivors) (reached-more (p .survivors) cs (k .reached));
-          inside = put-inside (a .put);
+          inside = puts-within old (p .end) (strikesNumbers (struckBy counts payoffs (p .survivors) cs)) (a .put);
         }
+
+    -- the output keeps its length
+    pub runs-length : length mid ≡ length old
+    runs-length = puts-length old (p .end) (strikesNumbers (struckBy counts payoffs (p .survivors) cs)) (a .put)
 
     -- the same calls in other words
     pub runs-as : {ds : List Strategy} → cs ≡ ds → Runs counts payoffs ds p old q mid
@@ -113,7 +97,7 @@ module _ (counts : List ℕ) (payoffs : List Float) where
         record {
           survivors = b .survivors ∙ ap (λ (v : Survivors). chainFrom counts payoffs v ds .survivors) (a .survivors) ∙ sym (left-append counts payoffs (p .survivors) cs ds);
           any = b .any ∙ ap (λ (x : Bool). not (empty ls) || x) (a .any) ∙ any-append ks ls (p .any) ∙ sym (ap (λ (l : List Strike). not (empty l) || p .any) both);
-          put = subst⁻¹ (λ (xs : List ℕ). Put xs old (p .end) new (r .end)) (ap strikesNumbers both ∙ numbers-append ks ls) (put-append (a .put) (b .put));
+          put = puts-same old (p .end) (sym (ap strikesNumbers both ∙ numbers-append ks ls)) (puts-more old (p .end) (strikesNumbers ks) (strikesNumbers ls) (a .put) (b .put));
         }
 
   -- ---- the sweeps
@@ -123,7 +107,7 @@ module _ (counts : List ℕ) (payoffs : List Float) where
   pub record After (old : List ℕ) (end : ℕ) (any : Bool) (v : Survivors) (out : List ℕ) : Type 0 where
     pub strikes : List Strike
     pub reached : Reached counts payoffs v
-    pub put : Put (strikesNumbers strikes) old 0 out end
+    pub put : Puts old 0 (strikesNumbers strikes) end out
     pub goes-on : {w : Survivors} {ks : List Strike} → Sweeps counts payoffs v ks w → Sweeps counts payoffs (freshOf counts) (strikes ++ ks) w
     pub last : any ≡ false → struckIn counts payoffs v ≡ []
 
@@ -133,7 +117,7 @@ module _ (counts : List ℕ) (payoffs : List Float) where
       record {
         strikes = [];
         reached = ([], refl);
-        put = put-none old 0 (omega arith);
+        put = puts-none old 0 (omega arith);
         goes-on = λ s. s;
         last = λ e. let z : _≡_ {A = ℕ} 0 1 = cc in absurd (omega arith);
       }
@@ -151,7 +135,7 @@ module _ (counts : List ℕ) (payoffs : List Float) where
         record {
           strikes = s .strikes ++ ks;
           reached = rw (a .survivors) (reached-more v (sweepCalls counts payoffs) (s .reached));
-          put = subst⁻¹ (λ (xs : List ℕ). Put xs old 0 new (r .end)) (numbers-append (s .strikes) ks) (put-append (s .put) (a .put));
+          put = puts-same old 0 (sym (numbers-append (s .strikes) ks)) (puts-more old 0 (strikesNumbers (s .strikes)) (strikesNumbers ks) (s .put) (a .put));
           goes-on = λ {w} {ks = ls} x.
               rw (append-assoc (s .strikes) ks ls) (s .goes-on (sweeps-more counts payoffs v (rw (a .survivors) at x)));
           last = λ e.
@@ -178,7 +162,7 @@ module _ (counts : List ℕ) (payoffs : List Float) where
     after-all e =
         let (strikes, left) = sweeps-once counts payoffs (s .goes-on (ended (s .last e))) (sweeps-done counts payoffs t .sweeps) in
         let all : s .strikes ≡ sweeps counts payoffs .strikes = sym (append-nil (s .strikes)) ∙ strikes in (
-          s .put .place ∙ ap (λ (l : List Strike). past old 0 (strikesNumbers l)) all,
+          s .put .0 ∙ ap (λ (l : List Strike). past old 0 (strikesNumbers l)) all,
           left,
-          s .put .output ∙ ap (λ (l : List Strike). sets old 0 (strikesNumbers l)) all,
+          s .put .1 ∙ ap (λ (l : List Strike). sets old 0 (strikesNumbers l)) all,
         )

@@ -4,21 +4,15 @@ use mathlib.Core.Bool.{not, _||_}
 use mathlib.Core.List.{List}
 use Prim.Native.Nat.{ℕ, _≤_}
 use lib.ListN.{length}
-use lib.Seq.{sets}
 use lib.Ieee.{Float}
 use Rattle.game.specs.Finite.{product, empty}
 use Rattle.game.specs.Game.{Strategy}
 use Rattle.table.specs.Meaning.{Table}
 use Rattle.survivors.specs.declared.Survivors.{Survivors}
 use Rattle.strike_lists.specs.Answers.{chainFrom, chain}
-use Rattle.outputs.specs.Put.{past}
+use Rattle.outputs.specs.Put.{Puts}
 use Rattle.sweeps.specs.declared.Progress.{Progress}
 use Rattle.sweeps.specs.Sweeps.{struckBy, strikesNumbers}
-
--- the numbers xs, put into the output old from `at` on as far as there is room, left the output new, and end is the place after them
-pub record Put (xs : List ℕ) (old : List ℕ) (at : ℕ) (new : List ℕ) (end : ℕ) : Type 0 where
-  pub place : end ≡ past old at xs
-  pub output : new ≡ sets old at xs
 
 module _ (counts : List ℕ) (payoffs : List Float) where
   -- survivors that some list of calls leaves
@@ -36,4 +30,4 @@ module _ (counts : List ℕ) (payoffs : List Float) where
   pub record Runs (cs : List Strategy) (p : Progress) (old : List ℕ) (r : Progress) (new : List ℕ) : Type 0 where
     pub survivors : r .survivors ≡ chainFrom counts payoffs (p .survivors) cs .survivors
     pub any : r .any ≡ not (empty (struckBy counts payoffs (p .survivors) cs)) || p .any
-    pub put : Put (strikesNumbers (struckBy counts payoffs (p .survivors) cs)) old (p .end) new (r .end)
+    pub put : Puts old (p .end) (strikesNumbers (struckBy counts payoffs (p .survivors) cs)) (r .end) new

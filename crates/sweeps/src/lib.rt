@@ -9,10 +9,10 @@ ghost use lib.Seq.{sets};
 ghost use Rattle.game.specs.Finite.{below};
 ghost use Rattle.game.specs.Game.{strategy as named};
 ghost use Rattle.table.specs.Meaning.{Table};
-ghost use Rattle.outputs.specs.Put.{past};
+ghost use Rattle.outputs.specs.Put.{past, Puts};
 ghost use Rattle.sweeps.specs.Sweeps.{sweepCalls, sweeps, strikesNumbers};
 ghost use Rattle.sweeps.specs.Meaning.{Done};
-ghost use Rattle.sweeps.specs.Progress.{Put, Ready, Runs};
+ghost use Rattle.sweeps.specs.Progress.{Ready, Runs};
 
 // The place after the strikes that were written, beside the survivors.
 pub struct SweepsResult {
@@ -35,7 +35,7 @@ fn put_strike(
     strategy: usize,
     dominator: usize,
 ) -> usize
-    ensures { λ r. ⌜ Put (player ∷ strategy ∷ dominator ∷ []) (now (struck .entry)) at (now (struck .exit)) r ⌝ }
+    ensures { λ r. ⌜ Puts (now (struck .entry)) at (player ∷ strategy ∷ dominator ∷ []) r (now (struck .exit)) ⌝ }
 {
     let second = outputs::put_number(struck, at, player);
     let third = outputs::put_number(struck, second, strategy);

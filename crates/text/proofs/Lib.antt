@@ -1,4 +1,3 @@
 -- The proofs of this crate that are not of one function.
-pub mod Puts
 pub mod Digits
 pub mod Lines

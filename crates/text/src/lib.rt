@@ -2,24 +2,16 @@
 // and gives the place after it (`outputs`).
 ghost use mathlib.Core.Path.{_≡_};
 ghost use mathlib.Core.List.{_∷_, map};
-ghost use Prim.Native.Nat.{min};
 ghost use lib.Seq.{sets};
 ghost use Rattle.outputs.specs.Put.{past};
 ghost use Rattle.text.specs.Text.{decimal, hexadecimal, spaced, joined, line};
-
-// The place at which a put starts: `at`, or the end if that comes first.
-fn lesser(end: usize, at: usize) -> usize
-    ensures { λ r. ⌜ r ≡ min end at ⌝ }
-{
-    if end < at { end } else { at }
-}
 
 // Puts the bytes as they are.
 pub fn put(out: &mut [u8], at: usize, bytes: &[u8]) -> usize
     ensures { λ r. ⌜ r ≡ past (now (out .entry)) at (now (bytes .entry)) ⌝ }
     ensures { λ _. ⌜ now (out .exit) ≡ sets (now (out .entry)) at (now (bytes .entry)) ⌝ }
 {
-    let mut place = lesser(out.len(), at);
+    let mut place = outputs::within(out.len(), at);
     let mut i = 0;
     while i < bytes.len() {
         place = outputs::put_byte(out, place, bytes[i]);
@@ -53,7 +45,7 @@ fn put_spaced(out: &mut [u8], at: usize, numbers: &[usize]) -> usize
     ensures { λ r. ⌜ r ≡ past (now (out .entry)) at (spaced (map decimal (now (numbers .entry)))) ⌝ }
     ensures { λ _. ⌜ now (out .exit) ≡ sets (now (out .entry)) at (spaced (map decimal (now (numbers .entry)))) ⌝ }
 {
-    let mut place = lesser(out.len(), at);
+    let mut place = outputs::within(out.len(), at);
     let mut i = 0;
     while i < numbers.len() {
         place = outputs::put_byte(out, place, b' ');

@@ -7,8 +7,9 @@ use lib.ListN.{length, getD, take}
 use lib.Seq.{take-all}
 use lib.Ieee.{Float, nan}
 use Rattle.utility.proofs.Laws.{finite-no-nan}
+use Rattle.outputs.specs.Put.{Puts}
+use Rattle.outputs.proofs.Put.{puts-none, puts-more, puts-same, puts-length}
 use Rattle.text.specs.Text.{space, spaced}
-use Rattle.text.proofs.Puts.{Puts, puts-none, puts-more, puts-same, puts-length}
 use Rattle.text.proofs.Lines.{spaced-next}
 use Rattle.report_lines.specs.Lines.{bitsWord}
 use Rattle.report_lines.proofs.put_bits.Statement.{statement}
@@ -21,9 +22,12 @@ Inv-loop out₀ at utilities place₀ i₀ out place i =
 abbrev μ-loop : tie.MeasureT-loop
 μ-loop out₀ at utilities place₀ i₀ out place i = length utilities - i
 
+within-requires : tie.Need-within-requires Inv-loop μ-loop
+within-requires c κs = tt
+
 loop-holds : tie.Need-loop-holds Inv-loop μ-loop
 unfolding spaced
-loop-holds c = let s = c .before .before in (omega arith, puts-none (s .args .out .now) (s .args .at) (omega (arith, s .pre .1)))
+loop-holds c = let a = c .before .before .before .args in (omega arith, puts-none (a .out .now) (a .at) (c .within .ensures))
 
 put-byte-requires : tie.Need-put-byte-requires Inv-loop μ-loop
 put-byte-requires c κs = tt
@@ -37,8 +41,8 @@ shared-slice-read-put-hexadecimal c = omega arith
 float-to-bits-put-hexadecimal : tie.Need-float-to-bits-put-hexadecimal Inv-loop μ-loop
 float-to-bits-put-hexadecimal c =
     let l = c .before .before .before .before .before .before .before in
-    let s = l .before .before .before in
-    finite-no-nan (getD (s .args .utilities .now) (l .loop .i) nan) (s .pre .0 (l .loop .i) (c .before .before .before .before .before .before .loop-test .taken))
+    let s = l .before .before .before .before in
+    finite-no-nan (getD (s .args .utilities .now) (l .loop .i) nan) (s .pre (l .loop .i) (c .before .before .before .before .before .before .loop-test .taken))
 
 put-hexadecimal-requires : tie.Need-put-hexadecimal-requires Inv-loop μ-loop
 put-hexadecimal-requires c κs = tt
@@ -55,7 +59,7 @@ loop-again c =
     let d = c .before .before in
     let b = d .before .before .before .before .before in
     let l = b .before .before .before in
-    let a = l .before .before .before .args in
+    let a = l .before .before .before .before .args in
     let i = l .loop .i in
     let us = a .utilities .now in
     let one = puts-more (l .loop .out) (l .loop .place) (space ∷ []) (bitsWord (getD us i nan)) (b .put-byte .ensures) (d .put-hexadecimal .ensures) in (
@@ -67,13 +71,13 @@ loop-again c =
 same-length : tie.Need-same-length Inv-loop μ-loop
 same-length c =
     let l = c .before in
-    let a = l .before .before .before .args in
+    let a = l .before .before .before .before .args in
     puts-length (a .out .now) (a .at) (spaced (map bitsWord (take (l .loop .i) (a .utilities .now)))) (l .loop .inv .1)
 
 returns : tie.Need-returns Inv-loop μ-loop
 returns c =
     let l = c .before in
-    let a = l .before .before .before .args in
+    let a = l .before .before .before .before .args in
     let all = take-all (l .loop .i) (a .utilities .now) (omega arith) in
     puts-same (a .out .now) (a .at) (ap (λ (us : List Float). spaced (map bitsWord us)) all) (l .loop .inv .1)
 
@@ -83,6 +87,7 @@ put-bits-spec =
     (tie.spec
     Inv-loop
     μ-loop
+    within-requires
     loop-holds
     put-byte-requires
     mul-put-hexadecimal

@@ -8,7 +8,8 @@ use lib.ListN.{length, take, drop}
 use lib.Ieee.{Float, nan}
 use Rattle.game.specs.Finite.{below}
 use Rattle.utility.specs.Order.{finite}
-use Rattle.text.proofs.Puts.{Puts, puts-none, puts-more, puts-same, puts-length}
+use Rattle.outputs.specs.Put.{Puts}
+use Rattle.outputs.proofs.Put.{puts-none, puts-more, puts-same, puts-length}
 use Rattle.report_lines.specs.Lines.{entryLine, part, entryLines}
 use Rattle.report_lines.proofs.Lines.{flat-next, entry-within, part-length, part-at}
 use Rattle.report_lines.proofs.put_entries.Statement.{statement}
@@ -23,20 +24,23 @@ Inv-loop out₀ at choices utilities players number place₀ i₀ out place i = 
 abbrev μ-loop : tie.MeasureT-loop
 μ-loop out₀ at choices utilities players number place₀ i₀ out place i = number - i
 
+within-requires : tie.Need-within-requires Inv-loop μ-loop
+within-requires c κs = tt
+
 loop-holds : tie.Need-loop-holds Inv-loop μ-loop
 unfolding flatMap
-loop-holds c = let s = c .before .before .before in (omega arith, puts-none (s .args .out .now) (s .args .at) (omega (arith, s .pre .1 .0)))
+loop-holds c = let a = c .before .before .before .before .args in (omega arith, puts-none (a .out .now) (a .at) (c .within .ensures))
 
 -- the i-th entry is there
 within : (c : tie.In-loop Inv-loop μ-loop)
-    → let a = c .before .before .before .before .before .args in
+    → let a = c .before .before .before .before .before .before .args in
     (c .before .loop .i * a .players + a .players ≤ length (a .choices .now)) × (c .before .loop .i * a .players + a .players ≤ length (a .utilities .now))
 within c =
-    let s = c .before .before .before .before .before in
+    let s = c .before .before .before .before .before .before in
     let a = s .args in
     let i = c .before .loop .i in (
-      entry-within i (a .number) (a .players) (length (a .choices .now)) (c .loop-test .taken) (s .pre .1 .1 .0 .0),
-      entry-within i (a .number) (a .players) (length (a .utilities .now)) (c .loop-test .taken) (s .pre .1 .1 .0 .1),
+      entry-within i (a .number) (a .players) (length (a .choices .now)) (c .loop-test .taken) (s .pre .1 .0 .0),
+      entry-within i (a .number) (a .players) (length (a .utilities .now)) (c .loop-test .taken) (s .pre .1 .0 .1),
     )
 
 mul-from : tie.Need-mul-from Inv-loop μ-loop
@@ -72,7 +76,7 @@ part-put-entry-end-2 c = within (c .before .before) .1
 put-entry-requires : tie.Need-put-entry-requires Inv-loop μ-loop
 put-entry-requires c κs =
     let k = c .before .before .before in
-    let s = k .before .before .before .before .before in
+    let s = k .before .before .before .before .before .before in
     let n = s .args .players in
     let from = k .before .loop .i * n in
     let e : from + n - from ≡ n = omega arith in
@@ -82,7 +86,7 @@ put-entry-requires c κs =
           let us = s .args .utilities .now in
           let m : j < n = omega (arith, l, part-length us n from (from + n - from) e (w .1)) in
           let most = entry-within (k .before .loop .i) (s .args .number) n (s .args .number * n) (k .loop-test .taken) (omega arith) in
-          subst (λ (x : Float). T (finite x)) (sym (part-at us n from (from + n - from) e (w .1) j nan m)) (s .pre .1 .1 .1 (from + j) (omega (arith, m, most))),
+          subst (λ (x : Float). T (finite x)) (sym (part-at us n from (from + n - from) e (w .1) j nan m)) (s .pre .1 .1 (from + j) (omega (arith, m, most))),
     )
 
 add-i : tie.Need-add-i Inv-loop μ-loop
@@ -95,7 +99,7 @@ loop-again : tie.Need-loop-again Inv-loop μ-loop
 loop-again c =
     let d = c .before .before in
     let l = d .before .before .before .before .before in
-    let a = l .before .before .before .before .args in
+    let a = l .before .before .before .before .before .args in
     let i = l .loop .i in
     let n = a .players in
     let e : i * n + n - i * n ≡ n = omega arith in
@@ -108,14 +112,14 @@ loop-again c =
 same-length : tie.Need-same-length Inv-loop μ-loop
 same-length c =
     let l = c .before in
-    let a = l .before .before .before .before .args in
+    let a = l .before .before .before .before .before .args in
     puts-length (a .out .now) (a .at) (put-lines (a .choices .now) (a .utilities .now) (a .players) (l .loop .i)) (l .loop .inv .1)
 
 returns : tie.Need-returns Inv-loop μ-loop
 unfolding entryLines
 returns c =
     let l = c .before in
-    let a = l .before .before .before .before .args in
+    let a = l .before .before .before .before .before .args in
     let e : l .loop .i ≡ a .number = omega arith in
     puts-same (a .out .now) (a .at) (ap (put-lines (a .choices .now) (a .utilities .now) (a .players)) e) (l .loop .inv .1)
 
@@ -125,6 +129,7 @@ put-entries-spec =
     (tie.spec
     Inv-loop
     μ-loop
+    within-requires
     loop-holds
     mul-from
     add-to

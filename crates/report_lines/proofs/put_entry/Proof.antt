@@ -2,10 +2,10 @@
 use mathlib.Core.Path.{sym, ap}
 use mathlib.Core.List.{List, [], _∷_, _++_, map}
 use Prim.Native.Nat.{ℕ}
-use native.Mathlib.Omega.{arith}
 use borrow.Author.Needs.{needs}
+use Rattle.outputs.specs.Put.{Puts}
+use Rattle.outputs.proofs.Put.{puts-more, puts-same, puts-length}
 use Rattle.text.specs.Text.{decimal, lineEnd, spaced, joined, line}
-use Rattle.text.proofs.Puts.{Puts, puts-more, puts-same, puts-length}
 use Rattle.report_lines.specs.Lines.{bitsWord, entryLine}
 use Rattle.report_lines.proofs.Lines.{joined-choices}
 use Rattle.report_lines.proofs.put_entry.Statement.{statement}
@@ -14,13 +14,8 @@ use Rattle.report_lines.proofs.put_entry.Tie as tie
 put-numbers-requires : tie.Need-put-numbers-requires
 put-numbers-requires c κs = search needs
 
--- the place after the choices is within the output
 put-bits-requires : tie.Need-put-bits-requires
-put-bits-requires c κs =
-    let first = c .before .before .before in
-    let s = first .before .before .before .before .before in
-    let same = puts-length (s .args .out .now) (s .args .at) (joined (map decimal (s .args .choices .now))) (first .put-numbers .ensures) in
-    (s .pre .1, omega (arith, same, first .put-numbers .ensures .0))
+put-bits-requires c κs = c .before .before .before .before .before .before .before .before .pre .1
 
 put-byte-requires : tie.Need-put-byte-requires
 put-byte-requires c κs = search needs

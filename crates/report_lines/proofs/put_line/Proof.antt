@@ -1,8 +1,9 @@
 -- `report_lines::put_line` meets its contract: the numbers, then the line end. Assumes nothing.
 use mathlib.Core.List.{[], _∷_, map}
 use borrow.Author.Needs.{needs}
+use Rattle.outputs.specs.Put.{Puts}
+use Rattle.outputs.proofs.Put.{puts-more, puts-length}
 use Rattle.text.specs.Text.{decimal, lineEnd, joined, line}
-use Rattle.text.proofs.Puts.{Puts, puts-more, puts-length}
 use Rattle.report_lines.specs.Lines.{numbersLine}
 use Rattle.report_lines.proofs.put_line.Statement.{statement}
 use Rattle.report_lines.proofs.put_line.Tie as tie

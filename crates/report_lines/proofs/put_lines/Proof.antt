@@ -5,7 +5,8 @@ use Prim.Native.Nat.{ℕ, _-_, _+_, _*_, _≤_}
 use native.Mathlib.Omega.{arith}
 use lib.ListN.{length, take, drop}
 use Rattle.game.specs.Finite.{below}
-use Rattle.text.proofs.Puts.{Puts, puts-none, puts-more, puts-same, puts-length}
+use Rattle.outputs.specs.Put.{Puts}
+use Rattle.outputs.proofs.Put.{puts-none, puts-more, puts-same, puts-length}
 use Rattle.report_lines.specs.Lines.{numbersLine, part, numbersLines}
 use Rattle.report_lines.proofs.Lines.{flat-next, entry-within}
 use Rattle.report_lines.proofs.put_lines.Statement.{statement}
@@ -20,16 +21,19 @@ Inv-loop out₀ at numbers width number place₀ i₀ out place i = (i ≤ numbe
 abbrev μ-loop : tie.MeasureT-loop
 μ-loop out₀ at numbers width number place₀ i₀ out place i = number - i
 
+within-requires : tie.Need-within-requires Inv-loop μ-loop
+within-requires c κs = tt
+
 loop-holds : tie.Need-loop-holds Inv-loop μ-loop
 unfolding flatMap
-loop-holds c = let a = c .before .before .args in (omega arith, puts-none (a .out .now) (a .at) (omega (arith, c .before .before .pre .0)))
+loop-holds c = let a = c .before .before .before .args in (omega arith, puts-none (a .out .now) (a .at) (c .within .ensures))
 
 -- the i-th line's numbers are there
 within : (c : tie.In-loop Inv-loop μ-loop)
-    → let a = c .before .before .before .before .args in c .before .loop .i * a .width + a .width ≤ length (a .numbers .now)
+    → let a = c .before .before .before .before .before .args in c .before .loop .i * a .width + a .width ≤ length (a .numbers .now)
 within c =
-    let s = c .before .before .before .before in
-    entry-within (c .before .loop .i) (s .args .number) (s .args .width) (length (s .args .numbers .now)) (c .loop-test .taken) (s .pre .1)
+    let s = c .before .before .before .before .before in
+    entry-within (c .before .loop .i) (s .args .number) (s .args .width) (length (s .args .numbers .now)) (c .loop-test .taken) (s .pre)
 
 mul-from : tie.Need-mul-from Inv-loop μ-loop
 mul-from c = let h = within c in omega arith
@@ -62,7 +66,7 @@ loop-again : tie.Need-loop-again Inv-loop μ-loop
 loop-again c =
     let d = c .before .before in
     let l = d .before .before .before .before in
-    let a = l .before .before .before .args in
+    let a = l .before .before .before .before .args in
     let i = l .loop .i in
     let e : i * a .width + a .width - i * a .width ≡ a .width = omega arith in
     let one = puts-same (l .loop .out) (l .loop .place) (ap (λ (k : ℕ). numbersLine (take k (drop (i * a .width) (a .numbers .now)))) e) (d .put-line .ensures) in (
@@ -74,14 +78,14 @@ loop-again c =
 same-length : tie.Need-same-length Inv-loop μ-loop
 same-length c =
     let l = c .before in
-    let a = l .before .before .before .args in
+    let a = l .before .before .before .before .args in
     puts-length (a .out .now) (a .at) (put-lines (a .numbers .now) (a .width) (l .loop .i)) (l .loop .inv .1)
 
 returns : tie.Need-returns Inv-loop μ-loop
 unfolding numbersLines
 returns c =
     let l = c .before in
-    let a = l .before .before .before .args in
+    let a = l .before .before .before .before .args in
     let e : l .loop .i ≡ a .number = omega arith in
     puts-same (a .out .now) (a .at) (ap (put-lines (a .numbers .now) (a .width)) e) (l .loop .inv .1)
 
@@ -91,6 +95,7 @@ put-lines-spec =
     (tie.spec
     Inv-loop
     μ-loop
+    within-requires
     loop-holds
     mul-from
     add-to

@@ -11,8 +11,8 @@ use Rattle.table.specs.Table.{tableGame}
 use Rattle.table.proofs.Checks.{table-law}
 use Rattle.catalogue.specs.Catalogue.{catalogue}
 use Rattle.catalogue.specs.Answers.{gameNumber, numberAnswer, toldNumber}
+use Rattle.outputs.proofs.Put.{puts-same}
 use Rattle.text.specs.Text.{spaced, joined, line}
-use Rattle.text.proofs.Puts.{puts-same}
 use Rattle.report_table.specs.Report.{numberLine, catalogueLine}
 use Rattle.report_table.proofs.put_catalogue.Statement.{statement}
 use Rattle.report_table.proofs.put_catalogue.Tie as tie

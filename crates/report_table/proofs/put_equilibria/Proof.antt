@@ -18,8 +18,8 @@ use Rattle.table.proofs.Checks.{table-law}
 use Rattle.table.proofs.Outputs.{room-fits}
 use Rattle.pure_nash.specs.Answers.{tableEquilibria, listingAnswer, equilibriaChoices, equilibriaUtilities}
 use Rattle.pure_nash.proofs.Listing.{listing-all}
+use Rattle.outputs.proofs.Put.{puts-more, puts-same}
 use Rattle.text.specs.Text.{decimal, line}
-use Rattle.text.proofs.Puts.{puts-more, puts-same, puts-length}
 use Rattle.report_lines.specs.Lines.{entryLines}
 use Rattle.report_table.specs.Report.{codes, numberLine, equilibriumLine, equilibriaText}
 use Rattle.report_table.proofs.Lists.{begins-with, equilibria-fit, choices-length, utilities-length, utilities-finite, equilibria-lines}
@@ -128,20 +128,12 @@ put-entries-requires c κs =
     let k = call n in
     let t = start k .pre .0 in
     let e = listed n .0 in
-    let a = start k .args in
-    let head = c .before .before .before .before .before in
-    let text = line (codes "equilibria" ∷ decimal (n .number .given .0 .0) ∷ []) in
     let finites : (i : ℕ) → i < n .number .given .0 .0 * length (counts k) → T (finite (getD (utilities n) i nan)) =
     λ i l.
     let (us, u) = utilities-are n in
     let h : i < number k * length (counts k) = subst (λ (m : ℕ). i < m * length (counts k)) e l in
-    subst (λ (xs : List Float). T (finite (getD xs i nan))) (sym u) (utilities-finite (counts k) (payoffs k) t us i h) in (
-      t .shape .some,
-      (
-        omega (arith, head .put-number-line .ensures .0, puts-length (a .out .now) (a .at) text (head .put-number-line .ensures)),
-        ((rw e (many n .0), rw e (many n .1)), finites),
-      ),
-    )
+    subst (λ (xs : List Float). T (finite (getD xs i nan))) (sym u) (utilities-finite (counts k) (payoffs k) t us i h) in
+    (t .shape .some, ((rw e (many n .0), rw e (many n .1)), finites))
 
 same-length : tie.Need-same-length
 same-length c = search needs

@@ -7,9 +7,9 @@ use native.Mathlib.Omega.{arith}
 use borrow.Author.Needs.{needs}
 use lib.ListN.{length, replicate}
 use Rattle.game.specs.Game.{strategy}
-use Rattle.outputs.proofs.Put.{past-all}
+use Rattle.outputs.proofs.Put.{past-all, puts-more, puts-same}
+use Rattle.outputs.specs.Put.{Puts}
 use Rattle.text.specs.Text.{decimal, line}
-use Rattle.text.proofs.Puts.{Puts, puts-more, puts-same}
 use Rattle.report_lines.specs.Lines.{numbersLine, numbersLines}
 use Rattle.sweeps.specs.Sweeps.{Strike, strikeNumbers, strikesNumbers, sweeps}
 use Rattle.report_table.specs.Report.{codes, numberLine, struckText}

@@ -16,7 +16,7 @@ use Rattle.refusal.proofs.Told.{apart, told-values}
 use Rattle.table.specs.Table.{cells}
 use Rattle.table.specs.Meaning.{Table}
 use Rattle.table.proofs.Checks.{counts-law}
-use Rattle.text.proofs.Puts.{puts-same}
+use Rattle.outputs.proofs.Put.{puts-same}
 use Rattle.report_input.specs.Input.{maxReportCells}
 use Rattle.report_table.specs.Report.{tableReport}
 use Rattle.report_text.proofs.put_read.Statement.{statement}

@@ -12,7 +12,7 @@ use Rattle.table.specs.Table.{cells}
 use Rattle.table.specs.Meaning.{Table}
 use Rattle.words.specs.Words.{Bytes, wordsOf}
 use Rattle.deposit.specs.Deposit.{countsIn, payoffsIn}
-use Rattle.text.proofs.Puts.{puts-same}
+use Rattle.outputs.proofs.Put.{puts-same}
 use Rattle.report_input.specs.Input.{maxReportCells, inputTable}
 use Rattle.report_table.specs.Report.{numberLine, tableReport}
 use Rattle.report_text.specs.Report.{toldReport, report}

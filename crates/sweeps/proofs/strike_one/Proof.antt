@@ -3,6 +3,7 @@ use mathlib.Core.Path.{_≡_, refl, sym, ap, _∙_}
 use mathlib.Core.Bool.{not, _||_}
 use mathlib.Core.List.{List, [], _∷_, flatMap}
 use Prim.Native.Nat.{ℕ}
+use native.Mathlib.Omega.{arith}
 use borrow.Author.Needs.{needs}
 use lib.Ieee.{Float}
 use Rattle.game.specs.Finite.{empty}
@@ -10,11 +11,13 @@ use Rattle.game.specs.Game.{Strategy, strategy}
 use Rattle.refusal.specs.Told.{Told, values, refused, toldUsize}
 use Rattle.survivor_calls.specs.Answers.{handedBack, strikeAnswer}
 use Rattle.strike_lists.proofs.Chain.{told}
+use Rattle.outputs.specs.Put.{Puts}
+use Rattle.outputs.proofs.Put.{puts-none}
 use Rattle.sweeps.specs.declared.Progress.{Progress}
 use Rattle.sweeps.specs.Sweeps.{strikesNumbers}
-use Rattle.sweeps.specs.Progress.{Put, Runs}
+use Rattle.sweeps.specs.Progress.{Runs}
 use Rattle.sweeps.proofs.Strikes.{strikeOf}
-use Rattle.sweeps.proofs.Runs.{put-none, reached-good, runs-one}
+use Rattle.sweeps.proofs.Runs.{reached-good, runs-one}
 use Rattle.sweeps.proofs.strike_one.Statement.{statement}
 use Rattle.sweeps.proofs.strike_one.Tie as tie
 
@@ -45,7 +48,7 @@ module _ (m : tie.After-strike-marked) where
   -- where the strike's answer tells a
   runs : (a : Told ℕ) → toldUsize (m .strike-marked .result .answer) ≡ a → (r : Progress) (new : List ℕ) → r .survivors ≡ m .strike-marked .result .survivors
       → r .any ≡ not (empty (strikeOf call a)) || from .any
-      → Put (strikesNumbers (strikeOf call a)) old (from .end) new (r .end)
+      → Puts old (from .end) (strikesNumbers (strikeOf call a)) (r .end) new
       → Runs cs ps (call ∷ []) from old r new
   runs a e r new left any put =
       runs-one cs ps from r old new call a (sym answers ∙ e) (left ∙ m .strike-marked .ensures .1 ∙ ap (handedBack (from .survivors) call) e) any put
@@ -76,7 +79,7 @@ returns-2 : tie.Need-returns-2
 unfolding strikesNumbers flatMap
 returns-2 c =
     let m = c .before .before .before in
-    runs m (refused _) (ap toldUsize (c .enum-told .given .1)) _ _ refl refl (put-none (old m) (from m .end) (start m .pre .inside))
+    runs m (refused _) (ap toldUsize (c .enum-told .given .1)) _ _ refl refl (puts-none (old m) (from m .end) (omega (arith, start m .pre .inside)))
 
 pub strike-one-spec : {M : Type 1} → statement M
 strike-one-spec =

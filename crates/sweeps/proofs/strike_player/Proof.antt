@@ -12,7 +12,7 @@ use Rattle.game.specs.Game.{strategy}
 use Rattle.game.proofs.Finite.{below-last}
 use Rattle.table.specs.Limits.{maxStrategies}
 use Rattle.sweeps.specs.Progress.{Runs}
-use Rattle.sweeps.proofs.Runs.{put-length, runs-none, runs-ready, runs-as, runs-append}
+use Rattle.sweeps.proofs.Runs.{runs-length, runs-none, runs-ready, runs-as, runs-append}
 use Rattle.sweeps.proofs.strike_player.Statement.{statement}
 use Rattle.sweeps.proofs.strike_player.Tie as tie
 
@@ -72,7 +72,7 @@ loop-again c =
     )
 
 same-length : tie.Need-same-length Inv-loop μ-loop
-same-length c = put-length (c .before .loop .inv .1 .put)
+same-length c = runs-length _ _ (c .before .loop .inv .1)
 
 returns : tie.Need-returns Inv-loop μ-loop
 returns c =

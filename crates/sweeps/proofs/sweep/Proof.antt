@@ -11,7 +11,7 @@ use Rattle.game.specs.Game.{Strategy, strategy, strategies}
 use Rattle.game.proofs.Finite.{below-last, flatMap-last}
 use Rattle.table.specs.Table.{tableGame}
 use Rattle.sweeps.specs.Progress.{Runs}
-use Rattle.sweeps.proofs.Runs.{put-length, runs-none, runs-ready, runs-as, runs-append}
+use Rattle.sweeps.proofs.Runs.{runs-length, runs-none, runs-ready, runs-as, runs-append}
 use Rattle.sweeps.proofs.sweep.Statement.{statement}
 use Rattle.sweeps.proofs.sweep.Tie as tie
 
@@ -67,7 +67,7 @@ loop-again c =
     )
 
 same-length : tie.Need-same-length Inv-loop μ-loop
-same-length c = put-length (c .before .loop .inv .1 .put)
+same-length c = runs-length _ _ (c .before .loop .inv .1)
 
 returns : tie.Need-returns Inv-loop μ-loop
 unfolding strategies tableGame

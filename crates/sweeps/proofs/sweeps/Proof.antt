@@ -15,7 +15,9 @@ use Rattle.table.proofs.Checks.{table-law}
 use Rattle.survivors.specs.declared.Survivors.{Survivors}
 use Rattle.survivors.specs.Survivors.{markCount, freshOf, unlessRefused, noSurvivors}
 use Rattle.sweeps.proofs.Ends.{sweeps-done}
-use Rattle.sweeps.proofs.Runs.{put-length, put-inside, After, after-none, after-more, after-less, after-all}
+use Rattle.outputs.proofs.Put.{puts-length, puts-within}
+use Rattle.sweeps.specs.Sweeps.{strikesNumbers}
+use Rattle.sweeps.proofs.Runs.{After, after-none, after-more, after-less, after-all}
 use Rattle.sweeps.proofs.sweeps.Statement.{statement}
 use Rattle.sweeps.proofs.sweeps.Tie as tie
 
@@ -63,7 +65,7 @@ sweep-requires : tie.Need-sweep-requires Inv-loop μ-loop
 sweep-requires c κs =
     let l = c .before .before in
     let (number, s) = l .loop .inv in
-    record { table = table (start l); number = number; reached = s .reached; inside = put-inside (s .put) }
+    record { table = table (start l); number = number; reached = s .reached; inside = puts-within (old (start l)) 0 (strikesNumbers (s .strikes)) (s .put) }
 
 -- a turn of the loop
 module _ (c : tie.After-survivors2 Inv-loop μ-loop) where
@@ -86,7 +88,8 @@ loop-again c =
     (l .loop .inv .0, after-more (cs k) (ps k) (table k) (l .loop .inv .1) (swept c .sweep .ensures))
 
 same-length : tie.Need-same-length Inv-loop μ-loop
-same-length c = put-length (c .before .loop .inv .1 .put)
+same-length c =
+    let s = c .before .loop .inv .1 in puts-length (old (start (c .before))) 0 (strikesNumbers (s .strikes)) (s .put)
 
 returns : tie.Need-returns Inv-loop μ-loop
 returns c =

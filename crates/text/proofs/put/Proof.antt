@@ -6,7 +6,8 @@ use native.Mathlib.Numerals.{add-one}
 use native.Mathlib.Omega.{arith}
 use lib.ListN.{length, getD, take}
 use lib.Seq.{take-suc, take-all}
-use Rattle.text.proofs.Puts.{Puts, puts-none, puts-more, puts-same, puts-length}
+use Rattle.outputs.specs.Put.{Puts}
+use Rattle.outputs.proofs.Put.{puts-none, puts-more, puts-same, puts-length}
 use Rattle.text.proofs.put.Statement.{statement}
 use Rattle.text.proofs.put.Tie as tie
 
@@ -16,13 +17,13 @@ Inv-loop out₀ at bytes place₀ i₀ out place i = (i ≤ length bytes) × Put
 abbrev μ-loop : tie.MeasureT-loop
 μ-loop out₀ at bytes place₀ i₀ out place i = length bytes - i
 
-lesser-requires : tie.Need-lesser-requires Inv-loop μ-loop
-lesser-requires c κs = tt
+within-requires : tie.Need-within-requires Inv-loop μ-loop
+within-requires c κs = tt
 
 loop-holds : tie.Need-loop-holds Inv-loop μ-loop
 loop-holds c =
     let a = c .before .before .before .args in
-    (omega arith, puts-none (a .out .now) (a .at) (c .lesser .ensures))
+    (omega arith, puts-none (a .out .now) (a .at) (c .within .ensures))
 
 shared-slice-read-put-byte : tie.Need-shared-slice-read-put-byte Inv-loop μ-loop
 shared-slice-read-put-byte c = omega arith
@@ -65,7 +66,7 @@ put-spec =
     (tie.spec
     Inv-loop
     μ-loop
-    lesser-requires
+    within-requires
     loop-holds
     shared-slice-read-put-byte
     put-byte-requires

@@ -1,7 +1,7 @@
 -- `text::put_decimal` meets its contract. Assumes nothing.
 use mathlib.Core.Path.{_∙_}
 use borrow.Author.Needs.{needs}
-use Rattle.text.proofs.Puts.{puts-same}
+use Rattle.outputs.proofs.Put.{puts-same}
 use Rattle.text.proofs.Digits.{decimal-fewest}
 use Rattle.text.proofs.put_decimal.Statement.{statement}
 use Rattle.text.proofs.put_decimal.Tie as tie

@@ -2,7 +2,7 @@
 use mathlib.Core.Path.{_∙_}
 use native.Mathlib.Omega.{arith}
 use borrow.Author.Needs.{needs}
-use Rattle.text.proofs.Puts.{puts-same}
+use Rattle.outputs.proofs.Put.{puts-same}
 use Rattle.text.proofs.Digits.{hexadecimal-fewest}
 use Rattle.text.proofs.put_hexadecimal.Statement.{statement}
 use Rattle.text.proofs.put_hexadecimal.Tie as tie

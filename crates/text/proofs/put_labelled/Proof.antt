@@ -1,8 +1,8 @@
 -- `text::put_labelled` meets its contract. Assumes nothing.
 use mathlib.Core.List.{[], _∷_, _++_, map}
 use borrow.Author.Needs.{needs}
+use Rattle.outputs.proofs.Put.{puts-more}
 use Rattle.text.specs.Text.{decimal, spaced, joined, lineEnd, line}
-use Rattle.text.proofs.Puts.{puts-more}
 use Rattle.text.proofs.put_labelled.Statement.{statement}
 use Rattle.text.proofs.put_labelled.Tie as tie
 

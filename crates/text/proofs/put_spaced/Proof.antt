@@ -5,8 +5,9 @@ use Prim.Native.Nat.{ℕ, _-_, _≤_}
 use native.Mathlib.Omega.{arith}
 use lib.ListN.{length, getD, take}
 use lib.Seq.{take-all}
+use Rattle.outputs.specs.Put.{Puts}
+use Rattle.outputs.proofs.Put.{puts-none, puts-more, puts-same, puts-length}
 use Rattle.text.specs.Text.{decimal, space, spaced}
-use Rattle.text.proofs.Puts.{Puts, puts-none, puts-more, puts-same, puts-length}
 use Rattle.text.proofs.Lines.{spaced-next}
 use Rattle.text.proofs.put_spaced.Statement.{statement}
 use Rattle.text.proofs.put_spaced.Tie as tie
@@ -17,14 +18,14 @@ Inv-loop out₀ at numbers place₀ i₀ out place i = (i ≤ length numbers) ×
 abbrev μ-loop : tie.MeasureT-loop
 μ-loop out₀ at numbers place₀ i₀ out place i = length numbers - i
 
-lesser-requires : tie.Need-lesser-requires Inv-loop μ-loop
-lesser-requires c κs = tt
+within-requires : tie.Need-within-requires Inv-loop μ-loop
+within-requires c κs = tt
 
 loop-holds : tie.Need-loop-holds Inv-loop μ-loop
 unfolding spaced
 loop-holds c =
     let a = c .before .before .before .args in
-    (omega arith, puts-none (a .out .now) (a .at) (c .lesser .ensures))
+    (omega arith, puts-none (a .out .now) (a .at) (c .within .ensures))
 
 put-byte-requires : tie.Need-put-byte-requires Inv-loop μ-loop
 put-byte-requires c κs = tt
@@ -76,7 +77,7 @@ put-spaced-spec =
     (tie.spec
     Inv-loop
     μ-loop
-    lesser-requires
+    within-requires
     loop-holds
     put-byte-requires
     mul-put-decimal
