@@ -6,19 +6,27 @@ ghost use mathlib.Core.Path.{_≡_};
 ghost use mathlib.Core.Bool.{true};
 ghost use Prim.Native.Nat.{_<_, _≤_};
 ghost use lib.ListN.{length, getD};
-ghost use lib.Ieee.{nan};
+ghost use lib.Ieee.{Float, nan, lt};
 ghost use Rattle.game.specs.Finite.{all, below};
 ghost use Rattle.utility.specs.Order.{finite};
+ghost use Rattle.sums.specs.Sums.{distance};
 ghost use Rattle.sums.specs.Inner.{Spans};
 ghost use Rattle.candidate_input.specs.Input.{maxActions};
 ghost use Rattle.mixed_strategies.specs.Distribution.{sumsToOne, distribution};
 ghost use Rattle.mixed_strategies.specs.Inner.{between, within};
 
+// How far a number is from 0, but for the sign of -0.0, which compares like 0.0.
+fn magnitude(x: f64) -> f64
+    ensures { λ r. ⌜ ((y : Float) → lt y r ≡ lt y (distance x)) ⌝ }
+{
+    if x < 0.0 { -x } else { x }
+}
+
 // Whether a vector's sum, less 1.0, is no further from 0 than the tolerance.
 fn sums_to_one(values: &[f64], tolerance: f64) -> bool
     ensures { λ r. ⌜ r ≡ sumsToOne (now (values .entry)) tolerance ⌝ }
 {
-    let far = sums::magnitude(sums::sum(values) - 1.0);
+    let far = magnitude(sums::sum(values) - 1.0);
     !(far > tolerance)
 }
 

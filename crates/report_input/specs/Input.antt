@@ -12,9 +12,11 @@ use Rattle.words.specs.Words.{wordsOf}
 use Rattle.words.specs.Faults.{lengthFault}
 use Rattle.deposit.specs.Deposit.{countsIn, payoffsIn, headFault, restFault}
 
+-- a deposit file of at most 2,048 cells
 abbrev pub maxReportCells : ℕ
 maxReportCells = 2048
 
+-- and of at most 24,616 bytes
 abbrev pub maxFileBytes : ℕ
 maxFileBytes = 24616
 

@@ -45,7 +45,7 @@ module _ (counts : List ℕ) (payoffs : List Float) where
   unfoldable pub struckText : List ℕ
   struckText = listed "struck" (λ k. numbersLine (strikeNumbers k)) (sweeps counts payoffs .strikes)
 
-  -- the first line gives P
+  -- P in the first line, the counts, the two lists, and in the last line the catalogue's number or none
   unfoldable pub tableReport : List ℕ
   tableReport =
       numberLine "players" (length counts)

@@ -3,8 +3,8 @@ ghost use mathlib.Core.Path.{_≡_};
 ghost use mathlib.Core.Bool.{false};
 ghost use Prim.Native.Nat.{ℕ, _+_, _*_, _<_, _≤_};
 ghost use lib.ListN.{length, getD};
-ghost use lib.Ieee.{Float, nan, inf, binary64, sub, mul, lt};
-ghost use Rattle.sums.specs.Sums.{roundedSum, distance};
+ghost use lib.Ieee.{nan, inf, binary64, sub, mul};
+ghost use Rattle.sums.specs.Sums.{roundedSum};
 ghost use Rattle.sums.specs.Inner.{added};
 
 // Infinity, which no constant can be.
@@ -12,13 +12,6 @@ pub fn infinity() -> f64
     ensures { λ r. ⌜ r ≡ inf false ⌝ }
 {
     1.0 / 0.0
-}
-
-// How far a number is from 0, but for the sign of -0.0, which compares like 0.0.
-pub fn magnitude(x: f64) -> f64
-    ensures { λ r. ⌜ ((y : Float) → lt y r ≡ lt y (distance x)) ⌝ }
-{
-    if x < 0.0 { -x } else { x }
 }
 
 // The sum taken left to right, from 0.0.

@@ -32,6 +32,7 @@ module _ (counts : List ℕ) (payoffs : List Float) where
     pub sweeps : Sweeps (freshOf counts) (x .strikes) (x .survivors)
     -- They are one list of strike calls from fresh survivors, to which demand 3 applies: the strikes are its accepted calls.
     pub calls : (cs : List Strategy) × (x .strikes ≡ strikesOf cs (chain counts payoffs cs .answers)) × (x .survivors ≡ chain counts payoffs cs .survivors)
+    -- each strike names strategies of the table
     pub named : (k : Strike) → k ∈ x .strikes → Named k
     -- there are no more strikes than strategies
     pub few : length (x .strikes) ≤ sum counts

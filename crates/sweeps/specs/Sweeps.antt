@@ -1,5 +1,6 @@
 -- Document 01, "The report program": strikes, players then strategies ascending, sweep after sweep, until a sweep strikes nothing. Sweep is that
--- document's term: a list of strike calls that names every strategy once. The calls are those of `survivor_calls`, chained by `strike_lists`. Assumes nothing.
+-- document's term: a list of strike calls that names every strategy once. The calls are those of `survivor_calls`, chained by `strike_lists`.
+-- Assumes nothing.
 use mathlib.Core.List.{List, [], _∷_, _++_, flatMap}
 use Prim.Native.Nat.{ℕ, zero, suc}
 use lib.Ieee.{Float}
@@ -55,15 +56,16 @@ module _ (counts : List ℕ) (payoffs : List Float) where
   sweepsFrom zero v = record { strikes = []; survivors = v }
   sweepsFrom (suc n) v = sweepThen v (struckIn v) (sweepsFrom n (sweep v .survivors))
 
-  -- from fresh survivors. As many sweeps as there are strategies are enough, since each but the last strikes at least one: a law (`sweeps-law`) says that
-  -- the sweeps ended
+  -- from fresh survivors. As many sweeps as there are strategies are enough, since each but the last strikes at least one: a law (`sweeps-law`) says
+  -- that the sweeps ended
   unfoldable pub sweeps : Swept
   sweeps = sweepsFrom (sum counts) (freshOf counts)
 
--- each strike as three numbers: player, strategy, dominator
+-- a strike as three numbers: player, strategy, dominator
 abbrev pub strikeNumbers : Strike → List ℕ
 strikeNumbers k = k .struck .player ∷ k .struck .number ∷ k .dominator ∷ []
 
+-- the numbers of each strike, one after the other
 unfoldable pub strikesNumbers : List Strike → List ℕ
 unfolding flatMap
 strikesNumbers ks = flatMap strikeNumbers ks

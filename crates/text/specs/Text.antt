@@ -19,9 +19,11 @@ decimal n = digits 10 (widthWithin n n) n
 unfoldable pub hexadecimal : ℕ → List ℕ
 hexadecimal n = digits 16 16 n
 
+-- the code of a space
 abbrev pub space : ℕ
 space = 32
 
+-- the code of a line end
 abbrev pub lineEnd : ℕ
 lineEnd = 10
 

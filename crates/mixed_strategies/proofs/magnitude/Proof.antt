@@ -1,9 +1,9 @@
--- `sums::magnitude` meets its contract: below 0 the negation is the distance, and else nothing tells the two apart. Assumes nothing.
+-- `mixed_strategies::magnitude` meets its contract: below 0 the negation is the distance, and else nothing tells the two apart. Assumes nothing.
 use mathlib.Core.Path.{ap}
 use lib.Ieee.{lt}
 use Rattle.sums.proofs.Floats.{far-below, far-above}
-use Rattle.sums.proofs.magnitude.Statement.{statement}
-use Rattle.sums.proofs.magnitude.Tie as tie
+use Rattle.mixed_strategies.proofs.magnitude.Statement.{statement}
+use Rattle.mixed_strategies.proofs.magnitude.Tie as tie
 
 returns : tie.Need-returns
 returns c y = ap (lt y) (far-below (c .before .args .x) (c .if1 .taken))
