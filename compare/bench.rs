@@ -4,7 +4,9 @@ use crate::candidate_cases;
 use crate::cases::{self, Random};
 use crate::catalogue::{self, COUNTS};
 use crate::document::{ACTIONS, CELLS, PLAYERS, STRATEGIES};
-use crate::library::{self, Answer, Bits, Claim, Entry, File, Held, Listing, Lists, StrikeLists};
+use crate::library::{
+    self, Answer, Bits, Claim, Entry, File, Held, Listing, Lists, Records, StrikeLists,
+};
 use crate::plain;
 use crate::rust;
 use crate::survivors::{self, Game, Left};
@@ -119,6 +121,15 @@ fn solvers(kind: &str, counts: &[usize], payoffs: &[f64]) {
         || {
             let (counts, payoffs) = input();
             library::best_responses(counts, payoffs, 0, &opponents, &mut lists)
+        },
+        || table().map(|matrix| rust::best_responses(&matrix, 0, &opponents)),
+    );
+    let mut records = Records::fresh(STRATEGIES);
+    row(
+        &name("best_response_records, first player"),
+        || {
+            let (counts, payoffs) = input();
+            library::best_response_records(counts, payoffs, 0, &opponents, &mut records)
         },
         || table().map(|matrix| rust::best_responses(&matrix, 0, &opponents)),
     );

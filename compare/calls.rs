@@ -47,6 +47,7 @@ pub fn compare() {
     let solvers = solvers::solvers();
     let lists = [OUTSIDE, BOTH, SHORT];
     report(solvers.responses, &[0, 1, 3, 6, 7, 8, 9, 10], &lists);
+    report(solvers.records, &[0, 1, 3, 6, 7, 8, 9, 10], &lists);
     let panics: (Judge, &[u32]) = (Judge::Panics, &[11, 12]);
     report(
         solvers.equilibrium,
@@ -75,18 +76,13 @@ pub fn compare() {
     catalogue.report_numbers();
     let titles: Vec<u32> = (0..catalogue::TITLES.len() as u32).collect();
     report(catalogue.number, &[], &[(Judge::Unasked, &titles)]);
-    match reports {
-        Some(reports) => {
-            reports.report_features();
-            let refused = Reports::refused();
-            report(
-                reports.report,
-                &[Reports::ACCEPTED],
-                &[(Judge::Unasked, &refused)],
-            );
-        }
-        None => report::left_out(),
-    }
+    reports.report_features();
+    let refused = Reports::refused();
+    report(
+        reports.report,
+        &[Reports::ACCEPTED],
+        &[(Judge::Unasked, &refused)],
+    );
     println!("compare: {with_rust} cases with the Rust and {with_document} with document 01 alone, 0 differences");
 }
 

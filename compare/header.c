@@ -49,6 +49,13 @@ static void solvers(void) {
     expect("best_responses", first[0] == 9 && utilities[0] == -1 && number == 99);
     expect("best_responses", sigvanyor_best_responses(counts, 2, payoffs, 8, 0, &opponent, 1, first, 1, utilities, 1, &number) == 0);
     expect("best_responses", number == 1 && first[0] == 1 && first[1] == 9 && utilities[0] == 3 && utilities[1] == -1);
+    sigvanyor_best_response responses[2] = {{9, -1}, {9, -1}};
+    number = 99;
+    expect("best_response_records", sigvanyor_best_response_records(counts, 2, payoffs, 8, 0, &opponent, 1, responses, 0, &number) == 13);
+    expect("best_response_records", responses[0].strategy == 9 && responses[0].utility == -1 && number == 99);
+    expect("best_response_records", sigvanyor_best_response_records(counts, 2, payoffs, 8, 0, &opponent, 1, responses, 1, &number) == 0);
+    expect("best_response_records", number == 1 && responses[0].strategy == 1 && responses[0].utility == 3);
+    expect("best_response_records", responses[1].strategy == 9 && responses[1].utility == -1);
     expect("is_equilibrium", sigvanyor_is_equilibrium(counts, 2, payoffs, 8, profile, 1, &equilibrium) == 11 && !equilibrium);
     expect("is_equilibrium", sigvanyor_is_equilibrium(counts, 2, payoffs, 8, profile, 2, &equilibrium) == 0 && equilibrium);
     number = 99;

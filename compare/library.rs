@@ -73,6 +73,18 @@ extern "C" {
         utilities_len: usize,
         number: *mut usize,
     ) -> u32;
+    fn sigvanyor_best_response_records(
+        counts: *const usize,
+        counts_len: usize,
+        payoffs: *const f64,
+        payoffs_len: usize,
+        player: usize,
+        opponents: *const usize,
+        opponents_len: usize,
+        responses: *mut BestResponse,
+        responses_len: usize,
+        number: *mut usize,
+    ) -> u32;
     fn sigvanyor_is_equilibrium(
         counts: *const usize,
         counts_len: usize,
@@ -547,6 +559,52 @@ impl Lists {
     }
 }
 
+/// A record of a list of best responses, as C has it.
+#[repr(C)]
+struct BestResponse {
+    strategy: usize,
+    utility: f64,
+}
+
+/// The outputs of a call that lists records: a number, and a slice with the words of so many records.
+pub struct Records {
+    number: Output<1>,
+    words: Slice,
+}
+
+impl Records {
+    const WORDS: usize = size_of::<BestResponse>() / size_of::<u64>();
+
+    pub fn fresh(length: usize) -> Self {
+        Self {
+            number: Output::fresh(),
+            words: Slice::fresh(length * Self::WORDS),
+        }
+    }
+
+    fn len(&self) -> usize {
+        self.words.len() / Self::WORDS
+    }
+
+    /// The answer of a call that wrote here.
+    pub fn answer(&mut self, status: u32) -> Answer<Listing<Bits>> {
+        let told = self.number.numbers()[0];
+        let outputs = [self.words.wrong(status, told.saturating_mul(Self::WORDS))];
+        let place = self.words.place::<BestResponse>();
+        answer_slices(status, outputs, &self.number, |number| {
+            let records = unsafe { std::slice::from_raw_parts(place, number) };
+            Listing {
+                number,
+                first: records.iter().map(|record| record.strategy).collect(),
+                second: records
+                    .iter()
+                    .map(|record| Bits::of(record.utility))
+                    .collect(),
+            }
+        })
+    }
+}
+
 /// Survivors as a call is lent them.
 pub struct Held {
     players: Output<1>,
@@ -791,6 +849,25 @@ pub fn best_responses(
         opponents.as_ptr(),
         opponents.len();
         lists
+    )
+}
+
+pub fn best_response_records(
+    counts: &[usize],
+    payoffs: &[f64],
+    player: usize,
+    opponents: &[usize],
+    records: &mut Records,
+) -> u32 {
+    call!(
+        sigvanyor_best_response_records,
+        [counts, payoffs],
+        player,
+        opponents.as_ptr(),
+        opponents.len(),
+        records.words.place(),
+        records.len(),
+        records.number.place()
     )
 }
 

@@ -12,7 +12,6 @@ use crate::survivors;
 use crate::tally::{agreed, sure, Judge, Tally};
 use std::fmt::Write as _;
 use std::io::Write as _;
-use std::path::Path;
 use std::process::{Command, Stdio};
 use std::time::Duration;
 
@@ -235,21 +234,13 @@ fn printed(bytes: &[u8], pieces: usize) -> Answer<String> {
     }
 }
 
-/// The comparison, unless there is no program.
-pub fn reports() -> Option<Reports> {
-    if !Path::new(PROGRAM).exists() {
-        return None;
-    }
+/// The comparison.
+pub fn reports() -> Reports {
     let mut reports = Reports {
         report: Tally::of("report", &TITLES, LEAST),
         keys: catalogue::least_keys(),
         features: [[0; 4]; FEATURES.len()],
     };
     report_cases::run(&mut reports);
-    Some(reports)
-}
-
-/// What is said where there is no program.
-pub fn left_out() {
-    println!("report: left out: no {PROGRAM}");
+    reports
 }

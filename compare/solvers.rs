@@ -2,7 +2,7 @@
 
 use crate::cases::{self, Filling, Random};
 use crate::document::{self, CELLS, PLAYERS, STRATEGIES};
-use crate::library::{self, Answer, Bits, Listing, Lists};
+use crate::library::{self, Answer, Bits, Listing, Lists, Records};
 use crate::rust::{self, Judged};
 use crate::tally::{floats, numbers, Judge, Tally};
 
@@ -28,6 +28,7 @@ pub const SHORT: [Room; 8] = [
 
 pub struct Solvers {
     pub responses: Tally,
+    pub records: Tally,
     pub equilibrium: Tally,
     pub count: Tally,
     pub equilibria: Tally,
@@ -35,19 +36,32 @@ pub struct Solvers {
 }
 
 impl Solvers {
+    /// Both lists of best responses: into two outputs, and as records into one, of the first one's length.
     fn responses(&mut self, judged: &Judged, player: usize, opponents: &[usize], rooms: &[Room]) {
+        let listing = judged.best_responses(player, opponents);
+        let input = || numbers("player", &[player]) + &numbers("opponents", opponents);
+        let (counts, payoffs) = (judged.counts, judged.payoffs);
         listings(
             &mut self.responses,
             judged,
-            || numbers("player", &[player]) + &numbers("opponents", opponents),
-            &judged.best_responses(player, opponents),
+            input,
+            &listing,
             rooms,
             |lists| {
-                let (counts, payoffs) = (judged.counts, judged.payoffs);
                 let status = library::best_responses(counts, payoffs, player, opponents, lists);
                 lists.answer(status, 1, Bits)
             },
         );
+        for room in rooms {
+            let [length, _] = lengths(&listing, *room);
+            let (by, judge) = judged.lent(&listing, [length; 2]);
+            let mut records = Records::fresh(length);
+            let status =
+                library::best_response_records(counts, payoffs, player, opponents, &mut records);
+            let input = || table(judged) + &input() + &numbers("length", &[length]);
+            self.records
+                .compare(by, input, judge, records.answer(status));
+        }
     }
 
     fn equilibrium(&mut self, judged: &Judged, profile: &[usize]) {
@@ -136,6 +150,7 @@ fn listings<T: Clone + std::fmt::Debug + PartialEq>(
 pub fn solvers() -> Solvers {
     let mut solvers = Solvers {
         responses: Tally::new("best_responses"),
+        records: Tally::new("best_response_records"),
         equilibrium: Tally::new("is_equilibrium"),
         count: Tally::new("count_equilibria"),
         equilibria: Tally::new("equilibria"),

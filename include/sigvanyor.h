@@ -102,6 +102,17 @@ uint32_t sigvanyor_best_responses(const size_t *counts, size_t counts_len, const
                                   size_t *strategies, size_t strategies_len, double *utilities, size_t utilities_len,
                                   size_t *number);
 
+/* A best response and its payoff. */
+typedef struct {
+    size_t strategy;
+    double utility;
+} sigvanyor_best_response;
+
+/* The same into one list of records. */
+uint32_t sigvanyor_best_response_records(const size_t *counts, size_t counts_len, const double *payoffs, size_t payoffs_len,
+                                         size_t player, const size_t *opponents, size_t opponents_len,
+                                         sigvanyor_best_response *responses, size_t responses_len, size_t *number);
+
 /* Whether a profile is an equilibrium, where no player's change of only its own choice gives that player a greater payoff, into
  * `equilibrium`; or 1 to 7, 11, 12. */
 uint32_t sigvanyor_is_equilibrium(const size_t *counts, size_t counts_len, const double *payoffs, size_t payoffs_len,

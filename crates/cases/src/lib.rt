@@ -6,6 +6,7 @@ ghost use lib.IntN.{pos};
 ghost use lib.Ieee.{nan, binary64, ofInt, add, mul};
 ghost use lib.ListN.{length, getD, set, take};
 use libc::STDOUT_FILENO;
+use refusal::BoolResult;
 use refusal::UsizeResult;
 
 // The largest finite f64, and the least above 0.0.
@@ -105,6 +106,17 @@ pub fn told_usize(r: UsizeResult) {
             number(n);
         }
         UsizeResult::Err(e) => refused(e.number()),
+    }
+}
+
+// Whether an accepted call said yes, or the refusal's number.
+pub fn told_bool(r: BoolResult) {
+    match r {
+        BoolResult::Ok(yes) => {
+            text(b" ok");
+            answer(yes);
+        }
+        BoolResult::Err(e) => refused(e.number()),
     }
 }
 

@@ -201,11 +201,15 @@ module _ {A B : Type 0} (f : A → List B) where
   to-flatMap (x ∷ xs) a b h k =
       ⊎-elim (λ (e : a ≡ x). append-left (flatMap f xs) (rw e at k)) (λ l. append-right (f x) (to-flatMap xs a b l k)) (in-cons h)
 
+  pub flatMap-append : (xs ys : List A) → flatMap f (xs ++ ys) ≡ flatMap f xs ++ flatMap f ys
+  unfolding flatMap
+  flatMap-append [] ys = refl
+  flatMap-append (x ∷ xs) ys = ap (λ l. f x ++ l) (flatMap-append xs ys) ∙ sym (append-assoc (f x) (flatMap f xs) (flatMap f ys))
+
   -- one more list stands at the end
   pub flatMap-last : (xs : List A) (y : A) → flatMap f (xs ++ (y ∷ [])) ≡ flatMap f xs ++ f y
   unfolding flatMap
-  flatMap-last [] y = append-nil (f y)
-  flatMap-last (x ∷ xs) y = ap (λ l. f x ++ l) (flatMap-last xs y) ∙ sym (append-assoc (f x) (flatMap f xs) (f y))
+  flatMap-last xs y = flatMap-append xs (y ∷ []) ∙ ap (λ l. flatMap f xs ++ l) (append-nil (f y))
 
   pub length-flatMap : (xs : List A) → length (flatMap f xs) ≡ sum (map (λ a. length (f a)) xs)
   unfolding flatMap

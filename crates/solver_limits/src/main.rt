@@ -1,15 +1,13 @@
 // The cases of the solvers at the limits of document 01 and its games, one line each: a short name, and what each of the five calls told,
 // which is `ok` with its value or `refused` with the refusal's number. After a call with outputs both stand whole; element i was 100 + i
 // before it. The sizes come from the limits of `table`; 2,048 cells are the most that `pure_nash` walks with its smaller arrays.
-use cases::answer;
 use cases::fill;
 use cases::first;
 use cases::floats;
 use cases::numbers;
-use cases::refused;
 use cases::text;
+use cases::told_bool;
 use cases::told_usize;
-use refusal::BoolResult;
 use table::MAX_CELLS;
 use table::MAX_PLAYERS;
 use table::MAX_STRATEGIES;
@@ -103,13 +101,7 @@ fn dominated(
 
 fn equilibrium(counts: &[usize], payoffs: &[f64], profile: &[usize]) {
     text(b"; equilibrium");
-    match pure_nash::is_equilibrium(counts, payoffs, profile) {
-        BoolResult::Ok(yes) => {
-            text(b" ok");
-            answer(yes);
-        }
-        BoolResult::Err(e) => refused(e.number()),
-    }
+    told_bool(pure_nash::is_equilibrium(counts, payoffs, profile));
 }
 
 fn equilibria(counts: &[usize], payoffs: &[f64], choices: &mut [usize], utilities: &mut [f64]) {

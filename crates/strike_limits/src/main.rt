@@ -6,12 +6,11 @@ use cases::first;
 use cases::floats;
 use cases::number;
 use cases::numbers;
-use cases::refused;
 use cases::text;
 use cases::told_usize;
-use refusal::UnitResult;
-use survivor_calls::StrikeResult;
-use survivors::FreshResult;
+use survivor_cases::told_fresh;
+use survivor_cases::told_strike;
+use survivor_cases::told_survivors;
 use survivors::Survivors;
 use table::MAX_CELLS;
 use table::MAX_MARKS;
@@ -41,51 +40,6 @@ const MEETING: [f64; 8] = [2.0, 2.0, 0.0, 0.0, 0.0, 0.0, 1.0, 1.0];
 const WAITING: [f64; 8] = [1.0, 1.0, 0.0, 0.0, 0.0, 1.0, 1.0, 0.0];
 
 // ---- what is printed
-
-// Each player that has a mark, with its marked strategies.
-fn told_marks(marks: &[bool; MAX_MARKS]) {
-    let mut player = MAX_PLAYERS;
-    let mut i = 0;
-    while i < MAX_MARKS {
-        if marks[i] {
-            if i / MAX_STRATEGIES != player {
-                player = i / MAX_STRATEGIES;
-                text(b",");
-                number(player);
-                text(b"'s");
-            }
-            number(i % MAX_STRATEGIES);
-        }
-        i += 1;
-    }
-}
-
-fn told_survivors(left: Survivors) {
-    let counts = left.counts;
-    let marks = left.marks;
-    text(b", P");
-    number(left.players);
-    text(b", counts");
-    numbers(&counts);
-    told_marks(&marks);
-}
-
-fn told_fresh(made: FreshResult) {
-    let answer = made.answer;
-    let left = made.survivors;
-    match answer {
-        UnitResult::Ok => text(b" ok"),
-        UnitResult::Err(e) => refused(e.number()),
-    }
-    told_survivors(left);
-}
-
-fn told_strike(struck: StrikeResult) {
-    let answer = struck.answer;
-    let left = struck.survivors;
-    told_usize(answer);
-    told_survivors(left);
-}
 
 fn code(n: u32) {
     number(n as usize);

@@ -9,6 +9,7 @@ use lib.Seq.{sets}
 use lib.Ieee.{Float}
 use Rattle.game.specs.Finite.{empty}
 use Rattle.game.specs.Game.{Strategy}
+use Rattle.game.proofs.Finite.{flatMap-append}
 use Rattle.refusal.specs.Told.{Told}
 use Rattle.table.specs.Meaning.{Table}
 use Rattle.survivors.specs.declared.Survivors.{Survivors}
@@ -28,10 +29,8 @@ use Rattle.sweeps.proofs.Ends.{sweeps-once, sweeps-more, sweep-counted,
 -- ---- strikes one after the other
 
 numbers-append : (ks ls : List Strike) → strikesNumbers (ks ++ ls) ≡ strikesNumbers ks ++ strikesNumbers ls
-unfolding strikesNumbers flatMap
-numbers-append [] ls = refl
-numbers-append (k ∷ ks) ls =
-    ap (λ (l : List ℕ). strikeNumbers k ++ l) (numbers-append ks ls) ∙ sym (append-assoc (strikeNumbers k) (strikesNumbers ks) (strikesNumbers ls))
+unfolding strikesNumbers
+numbers-append ks ls = flatMap-append strikeNumbers ks ls
 
 any-append : (ks ls : List Strike) (b : Bool) → not (empty ls) || (not (empty ks) || b) ≡ not (empty (ks ++ ls)) || b
 any-append [] ls b = refl

@@ -169,7 +169,7 @@ getD-below (suc n) zero h = refl
 getD-below (suc n) (suc i) h =
     getD-map suc (below n) i 0 0 (rw length-below (le-of-suc-le-suc h)) ∙ ap suc (getD-below n i (le-of-suc-le-suc h))
 
-getD-mem : {A : Type 0} (xs : List A) (i : ℕ) (d : A) → i < length xs → getD xs i d ∈ xs
+pub getD-mem : {A : Type 0} (xs : List A) (i : ℕ) (d : A) → i < length xs → getD xs i d ∈ xs
 getD-mem [] i d h = absurd (not-suc-le-zero h)
 getD-mem (x ∷ xs) zero d h = here refl
 getD-mem (x ∷ xs) (suc i) d h = there (getD-mem xs i d (le-of-suc-le-suc h))

@@ -1,20 +1,17 @@
 -- Words one after the other, and numbers as words. Assumes nothing.
 use mathlib.Core.Path.{_≡_, refl, sym, ap, _∙_}
-use mathlib.Core.List.{List, [], _∷_, _++_, map, flatMap, map-append, append-nil, append-assoc}
+use mathlib.Core.List.{List, [], _∷_, _++_, map, map-append, append-nil, append-assoc}
 use Prim.Native.Nat.{ℕ, suc, _+_, _-_, _<_}
 use native.Mathlib.Numerals.{add-one}
 use native.Mathlib.Omega.{arith}
 use lib.ListN.{length, getD, take, drop}
 use lib.Seq.{take-suc, take-all}
+use Rattle.game.proofs.Finite.{flatMap-append}
 use Rattle.text.specs.Text.{decimal, space, spaced, joined}
 
 pub spaced-append : (v w : List (List ℕ)) → spaced (v ++ w) ≡ spaced v ++ spaced w
-unfolding spaced flatMap
+unfolding spaced
 spaced-append v w = flatMap-append _ v w
-  where
-    flatMap-append : (f : List ℕ → List ℕ) (v w : List (List ℕ)) → flatMap f (v ++ w) ≡ flatMap f v ++ flatMap f w
-    flatMap-append f [] w = refl
-    flatMap-append f (a ∷ v) w = ap (λ (xs : List ℕ). f a ++ xs) (flatMap-append f v w) ∙ sym (append-assoc (f a) (flatMap f v) (flatMap f w))
 
 pub joined-append : (a : List ℕ) (v w : List (List ℕ)) → joined ((a ∷ v) ++ w) ≡ joined (a ∷ v) ++ spaced w
 unfolding joined

@@ -7,6 +7,8 @@ ghost use Rattle.utility.specs.Order.{finite, greater, equal};
 ghost use Rattle.utility.specs.Value.{valueOf, toldUtility, utilityAnswer};
 
 // A payoff that has passed the finite check, by a test or by a proof. The field is private, so that a raw float can't enter a comparison unchecked.
+// In C it is a double.
+#[repr(C)]
 pub struct Utility(f64);
 
 // Rust's `Result<Utility, NormalFormError>`.

@@ -1,9 +1,9 @@
--- `strike_limits::told_marks` is safe and ends. The measure is how many places are left. Assumes nothing.
+-- `survivor_cases::told_marks` is safe and ends. The measure is how many places are left. Assumes nothing.
 use Prim.Native.Nat.{_-_}
 use Rattle.table.specs.Limits.{maxMarks}
 use borrow.Author.Needs.{needs}
-use Rattle.strike_limits.proofs.told_marks.Statement.{statement}
-use Rattle.strike_limits.proofs.told_marks.Tie as tie
+use Rattle.survivor_cases.proofs.told_marks.Statement.{statement}
+use Rattle.survivor_cases.proofs.told_marks.Tie as tie
 
 abbrev Inv-loop : tie.InvT-loop
 Inv-loop marks player₀ i₀ t4 t5 player i = Unit {0}
