@@ -5,11 +5,11 @@
 use candidates::Claim;
 use refusal::UnitResult;
 use refusal::UsizeResult;
+use response_list::BestResponse;
 use table::MAX_MARKS;
 use table::MAX_PLAYERS;
 use table::StrategySpace;
 use utility::Utility;
-use view::BestResponse;
 ghost use mathlib.Core.Path.{_≡_};
 ghost use mathlib.Core.List.{map};
 ghost use Rattle.game.specs.Finite.{all};
@@ -28,7 +28,7 @@ ghost use Rattle.strict_dominance.specs.Answers.{strategiesOf, dominatorsOf, do
 ghost use Rattle.survivors.specs.Survivors.{freshOf};
 ghost use Rattle.survivor_calls.specs.Answers.{strikeAnswer, strikeLeaves, survivingAnswer, survivingChoices, survivingUtilities};
 ghost use Rattle.strike_lists.specs.Answers.{callsOf, dominatorOf, strikesAnswer, strikesLeave, strikesWritten};
-ghost use Rattle.view.specs.Responses.{recordsAnswer, recordsWritten};
+ghost use Rattle.response_list.specs.Responses.{recordsAnswer, recordsWritten};
 ghost use Rattle.deposit.specs.Answers.{readAnswer, readCounts, readPayoffs, writeAnswer, writeBytes};
 ghost use Rattle.catalogue.specs.Answers.{numberAnswer};
 ghost use Rattle.candidates.specs.Checks.{incentives, verdictOf, minimax};
@@ -176,7 +176,7 @@ pub extern "C" fn sigvanyor_best_responses(
     c_outputs::usize_into(answer, number)
 }
 
-// `view::best_responses`: a record for each into `responses`, and how many there are into `number`, or 1 to 7, 8, 9, 10, 13.
+// `response_list::best_responses`: a record for each into `responses`, and how many there are into `number`, or 1 to 7, 8, 9, 10, 13.
 #[no_mangle]
 pub extern "C" fn sigvanyor_best_response_records(
     counts: &[usize],
@@ -190,7 +190,7 @@ pub extern "C" fn sigvanyor_best_response_records(
         × (now (responses .exit) ≡ over (recordsWritten (now (counts .entry)) (now (payoffs .entry)) player (now (opponents .entry)) (length (now (responses .entry)))) (now (responses .entry)))
         × (now (number .exit) ≡ output (recordsAnswer (now (counts .entry)) (now (payoffs .entry)) player (now (opponents .entry)) (length (now (responses .entry)))) (now (number .entry))) ⌝ }
 {
-    let answer = view::best_responses(counts, payoffs, player, opponents, responses);
+    let answer = response_list::best_responses(counts, payoffs, player, opponents, responses);
     c_outputs::usize_into(answer, number)
 }
 

@@ -1,14 +1,9 @@
--- The table that a view holds: its counts are the first P of the view's. Assumes nothing.
-use mathlib.Core.List.{List, map}
+-- The table that a view holds. Assumes nothing.
+use mathlib.Core.List.{List}
 use Prim.Native.Nat.{ℕ}
-use lib.ListN.{getD}
-use Rattle.game.specs.Finite.{below}
+use Rattle.view_fields.specs.Counts.{firstCounts}
 use Rattle.view.specs.declared.PayoffMatrix.{PayoffMatrix}
 
--- the first P of the counts, and 0 for each place that there is none of: more than eight are refused by 2, whatever they are
-unfoldable pub firstCounts : ℕ → List ℕ → List ℕ
-firstCounts players counts = map (λ p. getD counts p 0) (below players)
-
--- the counts of the table that a view holds
+-- its counts
 abbrev pub countsOf : PayoffMatrix → List ℕ
 countsOf t = firstCounts (t .players) (t .counts)

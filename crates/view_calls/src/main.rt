@@ -1,4 +1,4 @@
-// The calls of `view`: the list of records, and the calls on a view, whose fields are whatever a case puts there. A line for each call: a short
+// The list of records of `response_list`, and the calls of `view` on a view, whose fields are whatever a case puts there. A line for each call: a short
 // name, and what the call told, which is `ok` with its value or `refused` with the refusal's number. After outputs, which stand whole, each
 // element 100 before the call, come survivors, as `survivor_cases` prints them. Of a list of records the first four stand there and the last.
 use cases::fill;
@@ -13,6 +13,8 @@ use cases::text;
 use cases::told_bool;
 use cases::told_usize;
 use refusal::UnitResult;
+use response_list::BestResponse;
+use response_list::ResponseList;
 use survivor_cases::told_fresh;
 use survivor_cases::told_strike;
 use survivors::Survivors;
@@ -21,8 +23,6 @@ use table::MAX_PLAYERS;
 use table::MAX_STRATEGIES;
 use table::SpaceResult;
 use utility::Utility;
-use view::BestResponse;
-use view::ResponseList;
 
 // The cells of the small table, of counts 2 3 4.
 const SMALL: usize = 72;
@@ -98,7 +98,14 @@ fn responses(
 ) {
     text(name);
     text(b": best responses");
-    told_list(view::matrix_best_responses(payoffs, players, counts, player, opponents, list()));
+    told_list(plain_views::matrix_best_responses(
+        payoffs,
+        players,
+        counts,
+        player,
+        opponents,
+        list(),
+    ));
 }
 
 fn equilibrium(
@@ -110,7 +117,7 @@ fn equilibrium(
 ) {
     text(name);
     text(b": equilibrium");
-    told_bool(view::matrix_is_equilibrium(payoffs, players, counts, profile));
+    told_bool(plain_views::matrix_is_equilibrium(payoffs, players, counts, profile));
     text(b"\n");
 }
 
@@ -119,7 +126,13 @@ fn equilibria(name: &[u8], payoffs: &[f64], players: usize, counts: [usize; MAX_
     let mut utilities = [FLOAT_FILLING; ROOM];
     text(name);
     text(b": equilibria");
-    told_usize(view::matrix_equilibria(payoffs, players, counts, &mut choices, &mut utilities));
+    told_usize(plain_views::matrix_equilibria(
+        payoffs,
+        players,
+        counts,
+        &mut choices,
+        &mut utilities,
+    ));
     text(b",");
     numbers(&choices);
     text(b",");
@@ -138,7 +151,7 @@ fn dominated(
     let mut dominators = [FILLING; ROOM];
     text(name);
     text(b": dominated");
-    told_usize(view::matrix_strictly_dominated_strategies(
+    told_usize(plain_views::matrix_strictly_dominated_strategies(
         payoffs,
         players,
         counts,
@@ -154,7 +167,7 @@ fn dominated(
 }
 
 fn fresh(name: &[u8], payoffs: &[f64], players: usize, counts: [usize; MAX_PLAYERS]) -> Survivors {
-    let made = view::matrix_fresh(payoffs, players, counts);
+    let made = plain_views::matrix_fresh(payoffs, players, counts);
     text(name);
     text(b": fresh");
     told_fresh(made);
@@ -172,7 +185,7 @@ fn strike(
     player: usize,
     strategy: usize,
 ) -> Survivors {
-    let struck = view::matrix_strike(payoffs, players, counts, left, player, strategy);
+    let struck = plain_views::matrix_strike(payoffs, players, counts, left, player, strategy);
     text(name);
     text(b": strike");
     number(player);
@@ -215,8 +228,8 @@ fn of_table(
 ) {
     text(name);
     text(b": list");
-    told_list(view::listed_best_responses(counts, payoffs, player, opponents, list()));
-    let made = view::matrix_new(counts, payoffs);
+    told_list(response_list::listed_best_responses(counts, payoffs, player, opponents, list()));
+    let made = plain_views::matrix_new(counts, payoffs);
     text(name);
     text(b": new");
     told_new(made);
@@ -392,7 +405,7 @@ fn equal_strategies() {
     payoffs[0] = 0.0;
     responses(b"64, the first less", &payoffs, 1, counts, 0, &[]);
     text(b"64 equal, less the first: list");
-    told_list(view::listed_best_responses(&[MAX_STRATEGIES], &payoffs, 0, &[], list()));
+    told_list(response_list::listed_best_responses(&[MAX_STRATEGIES], &payoffs, 0, &[], list()));
 }
 
 // Survivors of another table.

@@ -48,13 +48,13 @@ use Rattle.c_outputs.proofs.usize_into as into
 use Rattle.c_outputs.proofs.usize_into.Symbol as into-def
 use Rattle.c_outputs.proofs.usize_into.Symbol.{name as #c-outputs·usize-into}
 use Rattle.c_outputs.proofs.usize_into.Met as into-thm
-use Rattle.view.specs.Responses.{recordsAnswer, recordsWritten}
-use Rattle.view.specs.declared.BestResponse.{BestResponse}
-use Rattle.view.proofs.BestResponse as E
-use Rattle.view.proofs.best_responses as list
-use Rattle.view.proofs.best_responses.Symbol as list-def
-use Rattle.view.proofs.best_responses.Symbol.{name as #view·best-responses}
-use Rattle.view.proofs.best_responses.Met as list-thm
+use Rattle.response_list.specs.Responses.{recordsAnswer, recordsWritten}
+use Rattle.response_list.specs.declared.BestResponse.{BestResponse}
+use Rattle.response_list.proofs.BestResponse as E
+use Rattle.response_list.proofs.best_responses as list
+use Rattle.response_list.proofs.best_responses.Symbol as list-def
+use Rattle.response_list.proofs.best_responses.Symbol.{name as #response-list·best-responses}
+use Rattle.response_list.proofs.best_responses.Met as list-thm
 use Rattle.exports.proofs.sigvanyor_best_response_records.Key.{name as #here}
 use Rattle.exports.proofs.sigvanyor_best_response_records as f
 use Rattle.exports.proofs.sigvanyor_best_response_records.Statement as stated
@@ -161,7 +161,7 @@ module _ {M : Type 1} (𝓤 : URA M) (H : Heap 𝓤) (A : Atoms 𝓤) (W : Given
       move ! (6 ∷ 1 ∷ []) $ join ! $ move ! (1 ∷ 0 ∷ []) $ join ! $ move ! (1 ∷ 0 ∷ []) $ join ! $ move ! (1 ∷ 0 ∷ []) $ join ! $ move ! (1 ∷ 0 ∷ []) $ join ! $ frame ! $
       nothing ! $ move ! (2 ∷ 0 ∷ []) $ fjoin ! $ move ! (2 ∷ 0 ∷ []) $ fjoin ! $ nothing ! $ fjoin ! $ nothing ! $ fjoin ! $ nothing ! $ fjoin ! $ nothing ! $ fjoin ! $ done !
 
-  module _ (C : Calls 𝓤 H) (Λ : Loops 𝓤 H) (fm : FmC 𝓤 H (W .laws) C) (known-list : Triple 𝓤 (C #view·best-responses) (Listing 𝓤 H A mem run)) (known-into : Triple 𝓤 (C #c-outputs·usize-into) (Into 𝓤 H A mem run)) where
+  module _ (C : Calls 𝓤 H) (Λ : Loops 𝓤 H) (fm : FmC 𝓤 H (W .laws) C) (known-list : Triple 𝓤 (C #response-list·best-responses) (Listing 𝓤 H A mem run)) (known-into : Triple 𝓤 (C #c-outputs·usize-into) (Into 𝓤 H A mem run)) where
     walk : Is (ShrSlice (named 0) κ₀ usize) counts (v₀ ∷ []) → Is (ShrSlice (named 1) κ₁ f64) payoffs (v₁ ∷ []) → player < 2 ^ 64 → Is (ShrSlice (named 2) κ₂ usize) opponents (v₂ ∷ []) → Room E.the-row (length (x .now))
         → ent 𝓤 (onEntry 𝓤 H A f.signature κs qs a vals) (WpFn 𝓤 H C Λ code.function (v₀ ∷ v₁ ∷ vint w64 player ∷ v₂ ∷ v₃ ∷ v₄ ∷ []) Post)
     walk is₀ is₁ fits is₂ room =
@@ -202,14 +202,14 @@ module _ {M : Type 1} (𝓤 : URA M) (H : Heap 𝓤) (A : Atoms 𝓤) (W : Given
         by ! (exits n w (zs .1 .1 .1 .1 .0) (m .1 .0) (e ∙ ap (λ (t : Told ℕ). status t) (said .0), said .1, e′ ∙ ap (λ (t : Told ℕ). output t (now y)) (said .0)) same))))))))))))))))))))))))
 
 module _ {M : Type 1} (𝓤 : URA M) (H : Heap 𝓤) (A : Atoms 𝓤) (W : Given 𝓤 H A) (mem : Memory → SProp 𝓤) (run : Routine → Fun 𝓤) where
-  walks : (C : Calls 𝓤 H) (Λ : Loops 𝓤 H) → FmC 𝓤 H (W .laws) C → Triple 𝓤 (C #view·best-responses) (Listing 𝓤 H A mem run) → Triple 𝓤 (C #c-outputs·usize-into) (Into 𝓤 H A mem run) → Walks 𝓤 H A f.ended stayed (WpFn 𝓤 H C Λ code.function) (f.clauses 𝓤 H A mem run)
+  walks : (C : Calls 𝓤 H) (Λ : Loops 𝓤 H) → FmC 𝓤 H (W .laws) C → Triple 𝓤 (C #response-list·best-responses) (Listing 𝓤 H A mem run) → Triple 𝓤 (C #c-outputs·usize-into) (Into 𝓤 H A mem run) → Walks 𝓤 H A f.ended stayed (WpFn 𝓤 H C Λ code.function) (f.clauses 𝓤 H A mem run)
   walks C Λ fm known-list known-into = walked 𝓤 H A f.ended stayed (f.clauses 𝓤 H A mem run) (WpFn 𝓤 H C Λ code.function)
       (λ κs. (slice-vals, (slice-vals, (uint-vals w64, (slice-vals, (slice-vals, (ptr-vals, tt)))))))
       (λ κs. (shr-slice-tells (named 0) (κs .0) usize, (shr-slice-tells (named 1) (κs .1 .0) f64, (uint-tells w64, (shr-slice-tells (named 2) (κs .1 .1 .0) usize, (mut-slice-tells (named 3) (κs .1 .1 .1 .0) E.the-row, (mut-tells (named 4) (κs .1 .1 .1 .1 .0) usize, tt)))))))
       (λ κs qs bounds a g are. via 𝓤 _ (fst∗ 𝓤 _ (emp 𝓤)) (walk 𝓤 H A W mem run (κs .0) (κs .1 .0) (κs .1 .1 .0) (κs .1 .1 .1 .0) (κs .1 .1 .1 .1 .0) (qs .0) (qs .1 .0) (qs .1 .1 .0) (qs .1 .1 .1 .0) (qs .1 .1 .1 .1 .0)
       (a .0) (a .1 .0) (a .1 .1 .0) (a .1 .1 .1 .0) (a .1 .1 .1 .1 .0) (a .1 .1 .1 .1 .1 .0) C Λ fm known-list known-into (are .0) (are .1 .0) (are .1 .1 .0 .1) (are .1 .1 .1 .0) (are .1 .1 .1 .1 .0 .0 .1)))
 
-meets : {M : Type 1} (𝓤 : URA M) (H : Heap 𝓤) (A : Atoms 𝓤) → Given 𝓤 H A → (mem : Memory → SProp 𝓤) (run : Routine → Fun 𝓤) (𝓣 : Tables 𝓤 H) → Triple 𝓤 (𝓣 .C #view·best-responses) (Listing 𝓤 H A mem run) → Triple 𝓤 (𝓣 .C #c-outputs·usize-into) (Into 𝓤 H A mem run)
+meets : {M : Type 1} (𝓤 : URA M) (H : Heap 𝓤) (A : Atoms 𝓤) → Given 𝓤 H A → (mem : Memory → SProp 𝓤) (run : Routine → Fun 𝓤) (𝓣 : Tables 𝓤 H) → Triple 𝓤 (𝓣 .C #response-list·best-responses) (Listing 𝓤 H A mem run) → Triple 𝓤 (𝓣 .C #c-outputs·usize-into) (Into 𝓤 H A mem run)
     → Meets 𝓤 H A f.signature (WpFn 𝓤 H (𝓣 .C) (𝓣 .Λ) code.function) (f.spec 𝓤 H A mem run)
 meets 𝓤 H A W mem run 𝓣 known-list known-into =
     walk-meets 𝓤 H A f.ended stayed W (
@@ -233,5 +233,5 @@ sigvanyor-best-response-records-spec 𝓤 H 𝓜 𝓖 𝓡 =
     entered 𝓤 H (tripleOf 𝓤 H (𝓖 .A) f.signature (f.spec 𝓤 H (𝓖 .A) (𝓜 .mem) (𝓡 .run)))
     (tables 𝓤 H 𝓜 𝓡 code.env .C) (tables 𝓤 H 𝓜 𝓡 code.env .Λ) #here code.function (code.unfolded 𝓤 H 𝓜 𝓡)
     (meets 𝓤 H (𝓖 .A) (givenOf 𝓤 H 𝓜 𝓖) (𝓜 .mem) (𝓡 .run) (tablesOf 𝓤 H 𝓜 (tables 𝓤 H 𝓜 𝓡 code.env))
-    (cited 𝓤 H (Listing 𝓤 H (𝓖 .A) (𝓜 .mem) (𝓡 .run)) 𝓜 𝓡 code.env #view·best-responses list-def.routine code.calls-view·best-responses (list-thm.met 𝓤 H 𝓜 𝓖 𝓡))
+    (cited 𝓤 H (Listing 𝓤 H (𝓖 .A) (𝓜 .mem) (𝓡 .run)) 𝓜 𝓡 code.env #response-list·best-responses list-def.routine code.calls-response-list·best-responses (list-thm.met 𝓤 H 𝓜 𝓖 𝓡))
     (cited 𝓤 H (Into 𝓤 H (𝓖 .A) (𝓜 .mem) (𝓡 .run)) 𝓜 𝓡 code.env #c-outputs·usize-into into-def.routine code.calls-c-outputs·usize-into (into-thm.met 𝓤 H 𝓜 𝓖 𝓡)))

@@ -47,26 +47,26 @@ use Rattle.refusal.proofs.UsizeResult.Laws as R′
 use Rattle.table.specs.Limits.{maxStrategies}
 use Rattle.table.specs.Outputs.{over, written}
 use Rattle.view.specs.Matrix.{countsOf}
-use Rattle.view.specs.Responses.{response, recordsAnswer, recordsWritten}
-use Rattle.view.specs.declared.BestResponse.{BestResponse}
-use Rattle.view.specs.declared.Found.{Found}
+use Rattle.response_list.specs.Responses.{response, recordsAnswer, recordsWritten}
+use Rattle.response_list.specs.declared.BestResponse.{BestResponse}
+use Rattle.response_list.specs.declared.Found.{Found}
 use Rattle.view.specs.declared.PayoffMatrix.{PayoffMatrix}
 use Rattle.view.proofs.Apart.{view-lft, view-val, view-vals, view-tells, view-typed, view-counts, apart}
 use Rattle.view.proofs.Counts.{counts-laws, counts-vals, field-list}
-use Rattle.view.proofs.Delivered.{number-fits, number-few, delivered}
-use Rattle.view.proofs.BestResponse as E
-use Rattle.view.proofs.Found as F
-use Rattle.view.proofs.Found.Laws as F′
+use Rattle.response_list.proofs.Delivered.{number-fits, number-few, delivered}
+use Rattle.response_list.proofs.BestResponse as E
+use Rattle.response_list.proofs.Found as F
+use Rattle.response_list.proofs.Found.Laws as F′
 use Rattle.view.proofs.PayoffMatrix as T
-use Rattle.view.proofs.responses_of as of
-use Rattle.view.proofs.responses_of.Symbol as of-def
-use Rattle.view.proofs.responses_of.Symbol.{name as #view·responses-of}
-use Rattle.view.proofs.responses_of.Met as of-thm
-use Rattle.view.proofs.write_list as write
-use Rattle.view.proofs.write_list.Symbol as write-def
-use Rattle.view.proofs.write_list.Symbol.{name as #view·write-list}
-use Rattle.view.proofs.write_list.Met as write-thm
-use Rattle.view.proofs.PayoffMatrix.best_responses.Key.{name as #view·best-responses}
+use Rattle.view_fields.proofs.responses_of as of
+use Rattle.view_fields.proofs.responses_of.Symbol as of-def
+use Rattle.view_fields.proofs.responses_of.Symbol.{name as #view-fields·responses-of}
+use Rattle.view_fields.proofs.responses_of.Met as of-thm
+use Rattle.response_list.proofs.write_list as write
+use Rattle.response_list.proofs.write_list.Symbol as write-def
+use Rattle.response_list.proofs.write_list.Symbol.{name as #response-list·write-list}
+use Rattle.response_list.proofs.write_list.Met as write-thm
+use Rattle.view.proofs.PayoffMatrix.best_responses.Key.{name as #response-list·best-responses}
 use Rattle.view.proofs.PayoffMatrix.best_responses as f
 use Rattle.view.proofs.PayoffMatrix.best_responses.Statement as stated
 use Rattle.view.proofs.PayoffMatrix.best_responses.Code as code
@@ -167,7 +167,7 @@ module _ {M : Type 1} (𝓤 : URA M) (H : Heap 𝓤) (A : Atoms 𝓤) (W : Given
       -- [the result; the last list; true]
       move ! (1 ∷ 2 ∷ []) $ fjoin ! $ nothing ! $ fjoin ! $ nothing ! $ fjoin ! $ nothing ! $ fjoin ! $ done !
 
-  module _ (C : Calls 𝓤 H) (Λ : Loops 𝓤 H) (fm : FmC 𝓤 H (W .laws) C) (known-of : Triple 𝓤 (C #view·responses-of) (Of 𝓤 H A mem run)) (known-write : Triple 𝓤 (C #view·write-list) (Write 𝓤 H A mem run))
+  module _ (C : Calls 𝓤 H) (Λ : Loops 𝓤 H) (fm : FmC 𝓤 H (W .laws) C) (known-of : Triple 𝓤 (C #view-fields·responses-of) (Of 𝓤 H A mem run)) (known-write : Triple 𝓤 (C #response-list·write-list) (Write 𝓤 H A mem run))
       (is : Is (T.the-row (view-lft κ)) d (view-vals κ d)) (is-p : Is usize p (vint w64 p ∷ [])) (is-o : Is (ShrSlice (named 1) κ₁ usize) o (so ∷ [])) (is-x : Is (MutSlice (named 2) κ₂ E.the-row) x (s ∷ [])) where
     -- what is had on entry gives what `responses_of` asks, and the list and its token are left
     sorts : ent 𝓤 (onEntry 𝓤 H A f.signature κs qs a vals) (sep 𝓤 (Of 𝓤 H A mem run .pre to-of) (sep 𝓤 (sem 𝓤 H A (MutSlice (named 2) κ₂ E.the-row .own x (s ∷ []))) (A .lft κ₂ q₂)))
@@ -220,12 +220,12 @@ module _ {M : Type 1} (𝓤 : URA M) (H : Heap 𝓤) (A : Atoms 𝓤) (W : Given
         by ! (exits n w (zs .1 .0) (ap toldUsize (wrote .0) ∙ answered, wrote .1 ∙ delivered (countsOf d) (now (d .payoffs)) p (now o) room r answered many holds (x .now)) same))))))))))))))))))))))))))
 
 module _ {M : Type 1} (𝓤 : URA M) (H : Heap 𝓤) (A : Atoms 𝓤) (W : Given 𝓤 H A) (mem : Memory → SProp 𝓤) (run : Routine → Fun 𝓤) where
-  best-responses-walks : (C : Calls 𝓤 H) (Λ : Loops 𝓤 H) → FmC 𝓤 H (W .laws) C → Triple 𝓤 (C #view·responses-of) (Of 𝓤 H A mem run) → Triple 𝓤 (C #view·write-list) (Write 𝓤 H A mem run) → Walks 𝓤 H A f.ended stayed (WpFn 𝓤 H C Λ code.function) (f.clauses 𝓤 H A mem run)
+  best-responses-walks : (C : Calls 𝓤 H) (Λ : Loops 𝓤 H) → FmC 𝓤 H (W .laws) C → Triple 𝓤 (C #view-fields·responses-of) (Of 𝓤 H A mem run) → Triple 𝓤 (C #response-list·write-list) (Write 𝓤 H A mem run) → Walks 𝓤 H A f.ended stayed (WpFn 𝓤 H C Λ code.function) (f.clauses 𝓤 H A mem run)
   best-responses-walks C Λ fm known-of known-write = walked 𝓤 H A f.ended stayed (f.clauses 𝓤 H A mem run) (WpFn 𝓤 H C Λ code.function)
       (λ κs. (view-vals (κs .0), (uint-vals w64, (slice-vals, (slice-vals, tt))))) (λ κs. (view-tells (κs .0), (uint-tells w64, (shr-slice-tells (named 1) (κs .1 .0) usize, (mut-slice-tells (named 2) (κs .1 .1 .0) E.the-row, tt)))))
       (λ κs qs bounds a g are. via 𝓤 _ (fst∗ 𝓤 _ (emp 𝓤)) (walk 𝓤 H A W mem run (κs .0) (κs .1 .0) (κs .1 .1 .0) (qs .0) (qs .1 .0) (qs .1 .1 .0) (a .0) (a .1 .0) (a .1 .1 .0) (a .1 .1 .1 .0) C Λ fm known-of known-write (are .0) (are .1 .0) (are .1 .1 .0) (are .1 .1 .1 .0)))
 
-best-responses-meets : {M : Type 1} (𝓤 : URA M) (H : Heap 𝓤) (A : Atoms 𝓤) → Given 𝓤 H A → (mem : Memory → SProp 𝓤) (run : Routine → Fun 𝓤) (𝓣 : Tables 𝓤 H) → Triple 𝓤 (𝓣 .C #view·responses-of) (Of 𝓤 H A mem run) → Triple 𝓤 (𝓣 .C #view·write-list) (Write 𝓤 H A mem run)
+best-responses-meets : {M : Type 1} (𝓤 : URA M) (H : Heap 𝓤) (A : Atoms 𝓤) → Given 𝓤 H A → (mem : Memory → SProp 𝓤) (run : Routine → Fun 𝓤) (𝓣 : Tables 𝓤 H) → Triple 𝓤 (𝓣 .C #view-fields·responses-of) (Of 𝓤 H A mem run) → Triple 𝓤 (𝓣 .C #response-list·write-list) (Write 𝓤 H A mem run)
     → Meets 𝓤 H A f.signature (WpFn 𝓤 H (𝓣 .C) (𝓣 .Λ) code.function) (f.spec 𝓤 H A mem run)
 best-responses-meets 𝓤 H A W mem run 𝓣 known-of known-write =
     walk-meets 𝓤 H A f.ended stayed W (
@@ -241,7 +241,7 @@ pub best-responses-spec : {M : Type 1} → stated.statement M
 unfolding code.routine tablesOf
 best-responses-spec 𝓤 H 𝓜 𝓖 𝓡 =
     entered 𝓤 H (tripleOf 𝓤 H (𝓖 .A) f.signature (f.spec 𝓤 H (𝓖 .A) (𝓜 .mem) (𝓡 .run)))
-    (tables 𝓤 H 𝓜 𝓡 code.env .C) (tables 𝓤 H 𝓜 𝓡 code.env .Λ) #view·best-responses code.function (code.unfolded 𝓤 H 𝓜 𝓡)
+    (tables 𝓤 H 𝓜 𝓡 code.env .C) (tables 𝓤 H 𝓜 𝓡 code.env .Λ) #response-list·best-responses code.function (code.unfolded 𝓤 H 𝓜 𝓡)
     (best-responses-meets 𝓤 H (𝓖 .A) (givenOf 𝓤 H 𝓜 𝓖) (𝓜 .mem) (𝓡 .run) (tablesOf 𝓤 H 𝓜 (tables 𝓤 H 𝓜 𝓡 code.env))
-    (cited 𝓤 H (Of 𝓤 H (𝓖 .A) (𝓜 .mem) (𝓡 .run)) 𝓜 𝓡 code.env #view·responses-of of-def.routine code.calls-view·responses-of (of-thm.met 𝓤 H 𝓜 𝓖 𝓡))
-    (cited 𝓤 H (Write 𝓤 H (𝓖 .A) (𝓜 .mem) (𝓡 .run)) 𝓜 𝓡 code.env #view·write-list write-def.routine code.calls-view·write-list (write-thm.met 𝓤 H 𝓜 𝓖 𝓡)))
+    (cited 𝓤 H (Of 𝓤 H (𝓖 .A) (𝓜 .mem) (𝓡 .run)) 𝓜 𝓡 code.env #view-fields·responses-of of-def.routine code.calls-view-fields·responses-of (of-thm.met 𝓤 H 𝓜 𝓖 𝓡))
+    (cited 𝓤 H (Write 𝓤 H (𝓖 .A) (𝓜 .mem) (𝓡 .run)) 𝓜 𝓡 code.env #response-list·write-list write-def.routine code.calls-response-list·write-list (write-thm.met 𝓤 H 𝓜 𝓖 𝓡)))

@@ -44,10 +44,10 @@ use Rattle.view.specs.declared.PayoffMatrix.{PayoffMatrix}
 use Rattle.view.proofs.Apart.{view-lft, view-vals, view-tells, view-typed, view-counts, apart, both}
 use Rattle.view.proofs.Counts.{counts-laws, counts-vals, field-list}
 use Rattle.view.proofs.PayoffMatrix as T
-use Rattle.view.proofs.fresh_of as of
-use Rattle.view.proofs.fresh_of.Symbol as of-def
-use Rattle.view.proofs.fresh_of.Symbol.{name as #view·fresh-of}
-use Rattle.view.proofs.fresh_of.Met as of-thm
+use Rattle.view_fields.proofs.fresh_of as of
+use Rattle.view_fields.proofs.fresh_of.Symbol as of-def
+use Rattle.view_fields.proofs.fresh_of.Symbol.{name as #view-fields·fresh-of}
+use Rattle.view_fields.proofs.fresh_of.Met as of-thm
 use Rattle.view.proofs.PayoffMatrix.fresh.Key.{name as #view·fresh}
 use Rattle.view.proofs.PayoffMatrix.fresh as f
 use Rattle.view.proofs.PayoffMatrix.fresh.Statement as stated
@@ -88,7 +88,7 @@ module _ {M : Type 1} (𝓤 : URA M) (H : Heap 𝓤) (A : Atoms 𝓤) (W : Given
       suffices ! _ (ends-at 𝓤 H A f.ended stayed (f.clauses 𝓤 H A mem run) W (((κ, tt), (q, tt), tt, (d, tt), (view-vals κ d, tt)), tt) u r (tt, tt) (tt, tt)) $ says ! e $
       move ! (1 ∷ []) $ frame ! $ nothing ! $ nothing ! $ fjoin ! $ done !
 
-  module _ (C : Calls 𝓤 H) (Λ : Loops 𝓤 H) (fm : FmC 𝓤 H (W .laws) C) (known : Triple 𝓤 (C #view·fresh-of) (Of 𝓤 H A mem run)) (is : Is (T.the-row (view-lft κ)) d (view-vals κ d)) where
+  module _ (C : Calls 𝓤 H) (Λ : Loops 𝓤 H) (fm : FmC 𝓤 H (W .laws) C) (known : Triple 𝓤 (C #view-fields·fresh-of) (Of 𝓤 H A mem run)) (is : Is (T.the-row (view-lft κ)) d (view-vals κ d)) where
     walk : ent 𝓤 (onEntry 𝓤 H A f.signature (κ, tt) (q, tt) (d, tt) (view-vals κ d, tt)) (WpFn 𝓤 H C Λ code.function (view-vals κ d) Post)
     walk =
         qed W (raw (onEntry 𝓤 H A f.signature (κ, tt) (q, tt) (d, tt) (view-vals κ d, tt)) ∷ []) ∵ enter ! C Λ code.function (view-vals κ d) _ $
@@ -108,12 +108,12 @@ module _ {M : Type 1} (𝓤 : URA M) (H : Heap 𝓤) (A : Atoms 𝓤) (W : Given
         move ! (10 ∷ 11 ∷ []) $ free1 ! $ move ! (8 ∷ 9 ∷ []) $ free1 ! $ move ! (6 ∷ 7 ∷ []) $ free1 ! $ move ! (4 ∷ 5 ∷ []) $ free1 ! $ move ! (2 ∷ 3 ∷ []) $ free1 ! $ free0 ! $ by ! (exits r u e))))))))))
 
 module _ {M : Type 1} (𝓤 : URA M) (H : Heap 𝓤) (A : Atoms 𝓤) (W : Given 𝓤 H A) (mem : Memory → SProp 𝓤) (run : Routine → Fun 𝓤) where
-  fresh-walks : (C : Calls 𝓤 H) (Λ : Loops 𝓤 H) → FmC 𝓤 H (W .laws) C → Triple 𝓤 (C #view·fresh-of) (Of 𝓤 H A mem run) → Walks 𝓤 H A f.ended stayed (WpFn 𝓤 H C Λ code.function) (f.clauses 𝓤 H A mem run)
+  fresh-walks : (C : Calls 𝓤 H) (Λ : Loops 𝓤 H) → FmC 𝓤 H (W .laws) C → Triple 𝓤 (C #view-fields·fresh-of) (Of 𝓤 H A mem run) → Walks 𝓤 H A f.ended stayed (WpFn 𝓤 H C Λ code.function) (f.clauses 𝓤 H A mem run)
   fresh-walks C Λ fm known = walked 𝓤 H A f.ended stayed (f.clauses 𝓤 H A mem run) (WpFn 𝓤 H C Λ code.function)
       (λ κs. (view-vals (κs .0), tt)) (λ κs. (view-tells (κs .0), tt))
       (λ κs qs bounds a g are. via 𝓤 _ (fst∗ 𝓤 _ (emp 𝓤)) (walk 𝓤 H A W mem run (κs .0) (qs .0) (a .0) C Λ fm known (are .0)))
 
-fresh-meets : {M : Type 1} (𝓤 : URA M) (H : Heap 𝓤) (A : Atoms 𝓤) → Given 𝓤 H A → (mem : Memory → SProp 𝓤) (run : Routine → Fun 𝓤) (𝓣 : Tables 𝓤 H) → Triple 𝓤 (𝓣 .C #view·fresh-of) (Of 𝓤 H A mem run)
+fresh-meets : {M : Type 1} (𝓤 : URA M) (H : Heap 𝓤) (A : Atoms 𝓤) → Given 𝓤 H A → (mem : Memory → SProp 𝓤) (run : Routine → Fun 𝓤) (𝓣 : Tables 𝓤 H) → Triple 𝓤 (𝓣 .C #view-fields·fresh-of) (Of 𝓤 H A mem run)
     → Meets 𝓤 H A f.signature (WpFn 𝓤 H (𝓣 .C) (𝓣 .Λ) code.function) (f.spec 𝓤 H A mem run)
 fresh-meets 𝓤 H A W mem run 𝓣 known =
     walk-meets 𝓤 H A f.ended stayed W (goes-dropped 𝓤 H A W 1 (plain (λ κs. T.the-row (namedLft 1 0 tt κs))) yes (λ κs x f. refl), tt) (f.clauses 𝓤 H A mem run)
@@ -125,4 +125,4 @@ fresh-spec 𝓤 H 𝓜 𝓖 𝓡 =
     entered 𝓤 H (tripleOf 𝓤 H (𝓖 .A) f.signature (f.spec 𝓤 H (𝓖 .A) (𝓜 .mem) (𝓡 .run)))
     (tables 𝓤 H 𝓜 𝓡 code.env .C) (tables 𝓤 H 𝓜 𝓡 code.env .Λ) #view·fresh code.function (code.unfolded 𝓤 H 𝓜 𝓡)
     (fresh-meets 𝓤 H (𝓖 .A) (givenOf 𝓤 H 𝓜 𝓖) (𝓜 .mem) (𝓡 .run) (tablesOf 𝓤 H 𝓜 (tables 𝓤 H 𝓜 𝓡 code.env))
-    (cited 𝓤 H (Of 𝓤 H (𝓖 .A) (𝓜 .mem) (𝓡 .run)) 𝓜 𝓡 code.env #view·fresh-of of-def.routine code.calls-view·fresh-of (of-thm.met 𝓤 H 𝓜 𝓖 𝓡)))
+    (cited 𝓤 H (Of 𝓤 H (𝓖 .A) (𝓜 .mem) (𝓡 .run)) 𝓜 𝓡 code.env #view-fields·fresh-of of-def.routine code.calls-view-fields·fresh-of (of-thm.met 𝓤 H 𝓜 𝓖 𝓡)))

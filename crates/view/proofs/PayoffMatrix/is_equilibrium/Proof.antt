@@ -47,10 +47,10 @@ use Rattle.view.specs.declared.PayoffMatrix.{PayoffMatrix}
 use Rattle.view.proofs.Apart.{view-lft, view-val, view-vals, view-tells, view-typed, view-counts, apart}
 use Rattle.view.proofs.Counts.{counts-laws, counts-vals, field-list}
 use Rattle.view.proofs.PayoffMatrix as T
-use Rattle.view.proofs.is_equilibrium_of as of
-use Rattle.view.proofs.is_equilibrium_of.Symbol as of-def
-use Rattle.view.proofs.is_equilibrium_of.Symbol.{name as #view·is-equilibrium-of}
-use Rattle.view.proofs.is_equilibrium_of.Met as of-thm
+use Rattle.view_fields.proofs.is_equilibrium_of as of
+use Rattle.view_fields.proofs.is_equilibrium_of.Symbol as of-def
+use Rattle.view_fields.proofs.is_equilibrium_of.Symbol.{name as #view-fields·is-equilibrium-of}
+use Rattle.view_fields.proofs.is_equilibrium_of.Met as of-thm
 use Rattle.view.proofs.PayoffMatrix.is_equilibrium.Key.{name as #view·is-equilibrium}
 use Rattle.view.proofs.PayoffMatrix.is_equilibrium as f
 use Rattle.view.proofs.PayoffMatrix.is_equilibrium.Statement as stated
@@ -111,7 +111,7 @@ module _ {M : Type 1} (𝓤 : URA M) (H : Heap 𝓤) (A : Atoms 𝓤) (W : Given
       suffices ! _ (ends-at 𝓤 H A f.ended stayed (f.clauses 𝓤 H A mem run) W ((κs, qs, tt, a, vals), tt) u r (tt, (tt, tt)) (tt, (tt, tt))) $ says ! e $
       move ! (1 ∷ []) $ frame ! $ nothing ! $ nothing ! $ fjoin ! $ nothing ! $ fjoin ! $ done !
 
-  module _ (C : Calls 𝓤 H) (Λ : Loops 𝓤 H) (fm : FmC 𝓤 H (W .laws) C) (known : Triple 𝓤 (C #view·is-equilibrium-of) (Of 𝓤 H A mem run)) (is : Is (T.the-row (view-lft κ)) d (view-vals κ d)) (is-x : Is (ShrSlice (named 1) κ′ usize) x (s ∷ [])) where
+  module _ (C : Calls 𝓤 H) (Λ : Loops 𝓤 H) (fm : FmC 𝓤 H (W .laws) C) (known : Triple 𝓤 (C #view-fields·is-equilibrium-of) (Of 𝓤 H A mem run)) (is : Is (T.the-row (view-lft κ)) d (view-vals κ d)) (is-x : Is (ShrSlice (named 1) κ′ usize) x (s ∷ [])) where
     walk : ent 𝓤 (onEntry 𝓤 H A f.signature κs qs a vals) (WpFn 𝓤 H C Λ code.function (view-val κ d ∷ s ∷ []) Post)
     walk =
         qed W (raw (onEntry 𝓤 H A f.signature κs qs a vals) ∷ []) ∵ enter ! C Λ code.function (view-val κ d ∷ s ∷ []) _ $
@@ -132,12 +132,12 @@ module _ {M : Type 1} (𝓤 : URA M) (H : Heap 𝓤) (A : Atoms 𝓤) (W : Given
         move ! (12 ∷ 13 ∷ []) $ free1 ! $ move ! (10 ∷ 11 ∷ []) $ free1 ! $ move ! (8 ∷ 9 ∷ []) $ free1 ! $ move ! (6 ∷ 7 ∷ []) $ free1 ! $ move ! (4 ∷ 5 ∷ []) $ free1 ! $ move ! (2 ∷ 3 ∷ []) $ free1 ! $ free0 ! $ by ! (exits r u e)))))))))))
 
 module _ {M : Type 1} (𝓤 : URA M) (H : Heap 𝓤) (A : Atoms 𝓤) (W : Given 𝓤 H A) (mem : Memory → SProp 𝓤) (run : Routine → Fun 𝓤) where
-  is-equilibrium-walks : (C : Calls 𝓤 H) (Λ : Loops 𝓤 H) → FmC 𝓤 H (W .laws) C → Triple 𝓤 (C #view·is-equilibrium-of) (Of 𝓤 H A mem run) → Walks 𝓤 H A f.ended stayed (WpFn 𝓤 H C Λ code.function) (f.clauses 𝓤 H A mem run)
+  is-equilibrium-walks : (C : Calls 𝓤 H) (Λ : Loops 𝓤 H) → FmC 𝓤 H (W .laws) C → Triple 𝓤 (C #view-fields·is-equilibrium-of) (Of 𝓤 H A mem run) → Walks 𝓤 H A f.ended stayed (WpFn 𝓤 H C Λ code.function) (f.clauses 𝓤 H A mem run)
   is-equilibrium-walks C Λ fm known = walked 𝓤 H A f.ended stayed (f.clauses 𝓤 H A mem run) (WpFn 𝓤 H C Λ code.function)
       (λ κs. (view-vals (κs .0), (slice-vals, tt))) (λ κs. (view-tells (κs .0), (shr-slice-tells (named 1) (κs .1 .0) usize, tt)))
       (λ κs qs bounds a g are. via 𝓤 _ (fst∗ 𝓤 _ (emp 𝓤)) (walk 𝓤 H A W mem run (κs .0) (κs .1 .0) (qs .0) (qs .1 .0) (a .0) (a .1 .0) C Λ fm known (are .0) (are .1 .0)))
 
-is-equilibrium-meets : {M : Type 1} (𝓤 : URA M) (H : Heap 𝓤) (A : Atoms 𝓤) → Given 𝓤 H A → (mem : Memory → SProp 𝓤) (run : Routine → Fun 𝓤) (𝓣 : Tables 𝓤 H) → Triple 𝓤 (𝓣 .C #view·is-equilibrium-of) (Of 𝓤 H A mem run)
+is-equilibrium-meets : {M : Type 1} (𝓤 : URA M) (H : Heap 𝓤) (A : Atoms 𝓤) → Given 𝓤 H A → (mem : Memory → SProp 𝓤) (run : Routine → Fun 𝓤) (𝓣 : Tables 𝓤 H) → Triple 𝓤 (𝓣 .C #view-fields·is-equilibrium-of) (Of 𝓤 H A mem run)
     → Meets 𝓤 H A f.signature (WpFn 𝓤 H (𝓣 .C) (𝓣 .Λ) code.function) (f.spec 𝓤 H A mem run)
 is-equilibrium-meets 𝓤 H A W mem run 𝓣 known =
     walk-meets 𝓤 H A f.ended stayed W (goes-dropped 𝓤 H A W 2 (plain (λ κs. T.the-row (namedLft 2 0 tt κs))) yes (λ κs x f. refl), (goes-dropped 𝓤 H A W 2 (shrSliceOf (1 ∷ []) tt (plain (λ _. usize))) yes (λ κs x f. refl), tt)) (f.clauses 𝓤 H A mem run)
@@ -149,4 +149,4 @@ is-equilibrium-spec 𝓤 H 𝓜 𝓖 𝓡 =
     entered 𝓤 H (tripleOf 𝓤 H (𝓖 .A) f.signature (f.spec 𝓤 H (𝓖 .A) (𝓜 .mem) (𝓡 .run)))
     (tables 𝓤 H 𝓜 𝓡 code.env .C) (tables 𝓤 H 𝓜 𝓡 code.env .Λ) #view·is-equilibrium code.function (code.unfolded 𝓤 H 𝓜 𝓡)
     (is-equilibrium-meets 𝓤 H (𝓖 .A) (givenOf 𝓤 H 𝓜 𝓖) (𝓜 .mem) (𝓡 .run) (tablesOf 𝓤 H 𝓜 (tables 𝓤 H 𝓜 𝓡 code.env))
-    (cited 𝓤 H (Of 𝓤 H (𝓖 .A) (𝓜 .mem) (𝓡 .run)) 𝓜 𝓡 code.env #view·is-equilibrium-of of-def.routine code.calls-view·is-equilibrium-of (of-thm.met 𝓤 H 𝓜 𝓖 𝓡)))
+    (cited 𝓤 H (Of 𝓤 H (𝓖 .A) (𝓜 .mem) (𝓡 .run)) 𝓜 𝓡 code.env #view-fields·is-equilibrium-of of-def.routine code.calls-view-fields·is-equilibrium-of (of-thm.met 𝓤 H 𝓜 𝓖 𝓡)))

@@ -49,10 +49,10 @@ use Rattle.view.specs.declared.PayoffMatrix.{PayoffMatrix}
 use Rattle.view.proofs.Apart.{view-lft, view-val, view-vals, view-tells, view-typed, view-counts, apart}
 use Rattle.view.proofs.Counts.{counts-laws, counts-vals, field-list}
 use Rattle.view.proofs.PayoffMatrix as T
-use Rattle.view.proofs.dominated_of as of
-use Rattle.view.proofs.dominated_of.Symbol as of-def
-use Rattle.view.proofs.dominated_of.Symbol.{name as #view·dominated-of}
-use Rattle.view.proofs.dominated_of.Met as of-thm
+use Rattle.view_fields.proofs.dominated_of as of
+use Rattle.view_fields.proofs.dominated_of.Symbol as of-def
+use Rattle.view_fields.proofs.dominated_of.Symbol.{name as #view-fields·dominated-of}
+use Rattle.view_fields.proofs.dominated_of.Met as of-thm
 use Rattle.view.proofs.PayoffMatrix.strictly_dominated_strategies.Key.{name as #view·strictly-dominated-strategies}
 use Rattle.view.proofs.PayoffMatrix.strictly_dominated_strategies as f
 use Rattle.view.proofs.PayoffMatrix.strictly_dominated_strategies.Statement as stated
@@ -119,7 +119,7 @@ module _ {M : Type 1} (𝓤 : URA M) (H : Heap 𝓤) (A : Atoms 𝓤) (W : Given
       suffices ! _ (ends-at 𝓤 H A f.ended stayed (f.clauses 𝓤 H A mem run) W ((κs, qs, tt, a, vals), tt) u r (tt, (tt, (ys, (zs, tt)))) (tt, (tt, (same-x, (same-y, tt))))) $ says ! (answers, last-x, last-y) $
       move ! (1 ∷ []) $ frame ! $ move ! (1 ∷ 2 ∷ []) $ fjoin ! $ move ! (2 ∷ 0 ∷ []) $ fjoin ! $ nothing ! $ fjoin ! $ nothing ! $ fjoin ! $ done !
 
-  module _ (C : Calls 𝓤 H) (Λ : Loops 𝓤 H) (fm : FmC 𝓤 H (W .laws) C) (known : Triple 𝓤 (C #view·dominated-of) (Of 𝓤 H A mem run))
+  module _ (C : Calls 𝓤 H) (Λ : Loops 𝓤 H) (fm : FmC 𝓤 H (W .laws) C) (known : Triple 𝓤 (C #view-fields·dominated-of) (Of 𝓤 H A mem run))
       (is : Is (T.the-row (view-lft κ)) d (view-vals κ d)) (is-p : Is usize p (vint w64 p ∷ [])) (is-x : Is (MutSlice (named 1) κ₁ usize) x (s ∷ [])) (is-y : Is (MutSlice (named 2) κ₂ usize) y (z ∷ [])) where
     walk : ent 𝓤 (onEntry 𝓤 H A f.signature κs qs a vals) (WpFn 𝓤 H C Λ code.function (view-val κ d ∷ vint w64 p ∷ s ∷ z ∷ []) Post)
     walk =
@@ -149,12 +149,12 @@ module _ {M : Type 1} (𝓤 : URA M) (H : Heap 𝓤) (A : Atoms 𝓤) (W : Given
         by ! (exits r u (ws .1 .1 .1 .1 .0) (ws .1 .1 .1 .1 .1 .0) answers last-x last-y same-x same-y))))))))))))))))))))))
 
 module _ {M : Type 1} (𝓤 : URA M) (H : Heap 𝓤) (A : Atoms 𝓤) (W : Given 𝓤 H A) (mem : Memory → SProp 𝓤) (run : Routine → Fun 𝓤) where
-  strictly-dominated-strategies-walks : (C : Calls 𝓤 H) (Λ : Loops 𝓤 H) → FmC 𝓤 H (W .laws) C → Triple 𝓤 (C #view·dominated-of) (Of 𝓤 H A mem run) → Walks 𝓤 H A f.ended stayed (WpFn 𝓤 H C Λ code.function) (f.clauses 𝓤 H A mem run)
+  strictly-dominated-strategies-walks : (C : Calls 𝓤 H) (Λ : Loops 𝓤 H) → FmC 𝓤 H (W .laws) C → Triple 𝓤 (C #view-fields·dominated-of) (Of 𝓤 H A mem run) → Walks 𝓤 H A f.ended stayed (WpFn 𝓤 H C Λ code.function) (f.clauses 𝓤 H A mem run)
   strictly-dominated-strategies-walks C Λ fm known = walked 𝓤 H A f.ended stayed (f.clauses 𝓤 H A mem run) (WpFn 𝓤 H C Λ code.function)
       (λ κs. (view-vals (κs .0), (uint-vals w64, (slice-vals, (slice-vals, tt))))) (λ κs. (view-tells (κs .0), (uint-tells w64, (mut-slice-tells (named 1) (κs .1 .0) usize, (mut-slice-tells (named 2) (κs .1 .1 .0) usize, tt)))))
       (λ κs qs bounds a g are. via 𝓤 _ (fst∗ 𝓤 _ (emp 𝓤)) (walk 𝓤 H A W mem run (κs .0) (κs .1 .0) (κs .1 .1 .0) (qs .0) (qs .1 .0) (qs .1 .1 .0) (a .0) (a .1 .0) (a .1 .1 .0) (a .1 .1 .1 .0) C Λ fm known (are .0) (are .1 .0) (are .1 .1 .0) (are .1 .1 .1 .0)))
 
-strictly-dominated-strategies-meets : {M : Type 1} (𝓤 : URA M) (H : Heap 𝓤) (A : Atoms 𝓤) → Given 𝓤 H A → (mem : Memory → SProp 𝓤) (run : Routine → Fun 𝓤) (𝓣 : Tables 𝓤 H) → Triple 𝓤 (𝓣 .C #view·dominated-of) (Of 𝓤 H A mem run)
+strictly-dominated-strategies-meets : {M : Type 1} (𝓤 : URA M) (H : Heap 𝓤) (A : Atoms 𝓤) → Given 𝓤 H A → (mem : Memory → SProp 𝓤) (run : Routine → Fun 𝓤) (𝓣 : Tables 𝓤 H) → Triple 𝓤 (𝓣 .C #view-fields·dominated-of) (Of 𝓤 H A mem run)
     → Meets 𝓤 H A f.signature (WpFn 𝓤 H (𝓣 .C) (𝓣 .Λ) code.function) (f.spec 𝓤 H A mem run)
 strictly-dominated-strategies-meets 𝓤 H A W mem run 𝓣 known =
     walk-meets 𝓤 H A f.ended stayed W (goes-dropped 𝓤 H A W 3 (plain (λ κs. T.the-row (namedLft 3 0 tt κs))) yes (λ κs x f. refl), (goes-dropped 𝓤 H A W 3 (plain (λ _. usize)) yes (λ κs x f. refl), (goes-gave-slice 𝓤 H A W 3 1 tt (plain (λ _. usize)), (goes-gave-slice 𝓤 H A W 3 2 tt (plain (λ _. usize)), tt)))) (f.clauses 𝓤 H A mem run)
@@ -166,4 +166,4 @@ strictly-dominated-strategies-spec 𝓤 H 𝓜 𝓖 𝓡 =
     entered 𝓤 H (tripleOf 𝓤 H (𝓖 .A) f.signature (f.spec 𝓤 H (𝓖 .A) (𝓜 .mem) (𝓡 .run)))
     (tables 𝓤 H 𝓜 𝓡 code.env .C) (tables 𝓤 H 𝓜 𝓡 code.env .Λ) #view·strictly-dominated-strategies code.function (code.unfolded 𝓤 H 𝓜 𝓡)
     (strictly-dominated-strategies-meets 𝓤 H (𝓖 .A) (givenOf 𝓤 H 𝓜 𝓖) (𝓜 .mem) (𝓡 .run) (tablesOf 𝓤 H 𝓜 (tables 𝓤 H 𝓜 𝓡 code.env))
-    (cited 𝓤 H (Of 𝓤 H (𝓖 .A) (𝓜 .mem) (𝓡 .run)) 𝓜 𝓡 code.env #view·dominated-of of-def.routine code.calls-view·dominated-of (of-thm.met 𝓤 H 𝓜 𝓖 𝓡)))
+    (cited 𝓤 H (Of 𝓤 H (𝓖 .A) (𝓜 .mem) (𝓡 .run)) 𝓜 𝓡 code.env #view-fields·dominated-of of-def.routine code.calls-view-fields·dominated-of (of-thm.met 𝓤 H 𝓜 𝓖 𝓡)))

@@ -51,10 +51,10 @@ use Rattle.view.specs.declared.PayoffMatrix.{PayoffMatrix}
 use Rattle.view.proofs.Apart.{view-lft, view-val, view-vals, view-tells, view-typed, view-counts, apart, both}
 use Rattle.view.proofs.Counts.{counts-laws, counts-vals, field-list}
 use Rattle.view.proofs.PayoffMatrix as T
-use Rattle.view.proofs.strike_of as of
-use Rattle.view.proofs.strike_of.Symbol as of-def
-use Rattle.view.proofs.strike_of.Symbol.{name as #view·strike-of}
-use Rattle.view.proofs.strike_of.Met as of-thm
+use Rattle.view_fields.proofs.strike_of as of
+use Rattle.view_fields.proofs.strike_of.Symbol as of-def
+use Rattle.view_fields.proofs.strike_of.Symbol.{name as #view-fields·strike-of}
+use Rattle.view_fields.proofs.strike_of.Met as of-thm
 use Rattle.view.proofs.PayoffMatrix.strike.Key.{name as #view·strike}
 use Rattle.view.proofs.PayoffMatrix.strike as f
 use Rattle.view.proofs.PayoffMatrix.strike.Statement as stated
@@ -109,7 +109,7 @@ module _ {M : Type 1} (𝓤 : URA M) (H : Heap 𝓤) (A : Atoms 𝓤) (W : Given
       suffices ! _ (ends-at 𝓤 H A f.ended stayed (f.clauses 𝓤 H A mem run) W (((κ, tt), (q, tt), tt, a, vals), tt) u r (tt, (tt, (tt, (tt, tt)))) (tt, (tt, (tt, (tt, tt))))) $ says ! e $
       move ! (1 ∷ []) $ frame ! $ nothing ! $ nothing ! $ fjoin ! $ nothing ! $ fjoin ! $ nothing ! $ fjoin ! $ nothing ! $ fjoin ! $ done !
 
-  module _ (C : Calls 𝓤 H) (Λ : Loops 𝓤 H) (fm : FmC 𝓤 H (W .laws) C) (known : Triple 𝓤 (C #view·strike-of) (Of 𝓤 H A mem run))
+  module _ (C : Calls 𝓤 H) (Λ : Loops 𝓤 H) (fm : FmC 𝓤 H (W .laws) C) (known : Triple 𝓤 (C #view-fields·strike-of) (Of 𝓤 H A mem run))
       (is : Is (T.the-row (view-lft κ)) d (view-vals κ d)) (is-x : Is S.the-row x (s ∷ [])) (is-p : Is usize p (vint w64 p ∷ [])) (is-t : Is usize t (vint w64 t ∷ [])) where
     walk : ent 𝓤 (onEntry 𝓤 H A f.signature (κ, tt) (q, tt) a vals) (WpFn 𝓤 H C Λ code.function (view-val κ d ∷ s ∷ vint w64 p ∷ vint w64 t ∷ []) Post)
     walk =
@@ -134,12 +134,12 @@ module _ {M : Type 1} (𝓤 : URA M) (H : Heap 𝓤) (A : Atoms 𝓤) (W : Given
         by ! (exits r u e)))))))))))))
 
 module _ {M : Type 1} (𝓤 : URA M) (H : Heap 𝓤) (A : Atoms 𝓤) (W : Given 𝓤 H A) (mem : Memory → SProp 𝓤) (run : Routine → Fun 𝓤) where
-  strike-walks : (C : Calls 𝓤 H) (Λ : Loops 𝓤 H) → FmC 𝓤 H (W .laws) C → Triple 𝓤 (C #view·strike-of) (Of 𝓤 H A mem run) → Walks 𝓤 H A f.ended stayed (WpFn 𝓤 H C Λ code.function) (f.clauses 𝓤 H A mem run)
+  strike-walks : (C : Calls 𝓤 H) (Λ : Loops 𝓤 H) → FmC 𝓤 H (W .laws) C → Triple 𝓤 (C #view-fields·strike-of) (Of 𝓤 H A mem run) → Walks 𝓤 H A f.ended stayed (WpFn 𝓤 H C Λ code.function) (f.clauses 𝓤 H A mem run)
   strike-walks C Λ fm known = walked 𝓤 H A f.ended stayed (f.clauses 𝓤 H A mem run) (WpFn 𝓤 H C Λ code.function)
       (λ κs. (view-vals (κs .0), (LL.vals S.the-type S′.the-laws, (uint-vals w64, (uint-vals w64, tt))))) (λ κs. (view-tells (κs .0), (LL.tells S.the-type S′.the-laws, (uint-tells w64, (uint-tells w64, tt)))))
       (λ κs qs bounds a g are. via 𝓤 _ (fst∗ 𝓤 _ (emp 𝓤)) (walk 𝓤 H A W mem run (κs .0) (qs .0) (a .0) (a .1 .0) (a .1 .1 .0) (a .1 .1 .1 .0) C Λ fm known (are .0) (are .1 .0) (are .1 .1 .0) (are .1 .1 .1 .0)))
 
-strike-meets : {M : Type 1} (𝓤 : URA M) (H : Heap 𝓤) (A : Atoms 𝓤) → Given 𝓤 H A → (mem : Memory → SProp 𝓤) (run : Routine → Fun 𝓤) (𝓣 : Tables 𝓤 H) → Triple 𝓤 (𝓣 .C #view·strike-of) (Of 𝓤 H A mem run)
+strike-meets : {M : Type 1} (𝓤 : URA M) (H : Heap 𝓤) (A : Atoms 𝓤) → Given 𝓤 H A → (mem : Memory → SProp 𝓤) (run : Routine → Fun 𝓤) (𝓣 : Tables 𝓤 H) → Triple 𝓤 (𝓣 .C #view-fields·strike-of) (Of 𝓤 H A mem run)
     → Meets 𝓤 H A f.signature (WpFn 𝓤 H (𝓣 .C) (𝓣 .Λ) code.function) (f.spec 𝓤 H A mem run)
 strike-meets 𝓤 H A W mem run 𝓣 known =
     walk-meets 𝓤 H A f.ended stayed W (
@@ -157,4 +157,4 @@ strike-spec 𝓤 H 𝓜 𝓖 𝓡 =
     entered 𝓤 H (tripleOf 𝓤 H (𝓖 .A) f.signature (f.spec 𝓤 H (𝓖 .A) (𝓜 .mem) (𝓡 .run)))
     (tables 𝓤 H 𝓜 𝓡 code.env .C) (tables 𝓤 H 𝓜 𝓡 code.env .Λ) #view·strike code.function (code.unfolded 𝓤 H 𝓜 𝓡)
     (strike-meets 𝓤 H (𝓖 .A) (givenOf 𝓤 H 𝓜 𝓖) (𝓜 .mem) (𝓡 .run) (tablesOf 𝓤 H 𝓜 (tables 𝓤 H 𝓜 𝓡 code.env))
-    (cited 𝓤 H (Of 𝓤 H (𝓖 .A) (𝓜 .mem) (𝓡 .run)) 𝓜 𝓡 code.env #view·strike-of of-def.routine code.calls-view·strike-of (of-thm.met 𝓤 H 𝓜 𝓖 𝓡)))
+    (cited 𝓤 H (Of 𝓤 H (𝓖 .A) (𝓜 .mem) (𝓡 .run)) 𝓜 𝓡 code.env #view-fields·strike-of of-def.routine code.calls-view-fields·strike-of (of-thm.met 𝓤 H 𝓜 𝓖 𝓡)))

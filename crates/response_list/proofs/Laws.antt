@@ -1,0 +1,27 @@
+-- What the records of a list are: the strategies and the payoffs that two outputs of its length are given. Assumes nothing.
+use mathlib.Core.Path.{_≡_, _∙_}
+use mathlib.Core.List.{List, map, map-map, map-id}
+use Prim.Native.Nat.{ℕ}
+use lib.Ieee.{Float}
+use Rattle.utility.specs.Value.{valueOf}
+use Rattle.table.specs.Table.{payoffAt}
+use Rattle.best_response.specs.Answers.{against, responsesWritten, responseUtilities}
+use Rattle.response_list.specs.Responses.{response, recordsWritten}
+use Rattle.response_list.specs.declared.BestResponse.{BestResponse}
+
+module _ (counts : List ℕ) (payoffs : List Float) (p : ℕ) (opponents : List ℕ) (room : ℕ) where
+  abbrev strategies : List ℕ
+  strategies = responsesWritten counts payoffs p opponents room room
+
+  abbrev recordOf : ℕ → BestResponse
+  recordOf s = response s (payoffAt counts payoffs p (against p opponents s))
+
+  -- the records' strategies are those that an output of that length is given,
+  pub records-strategies : map (λ (r : BestResponse). r .strategy) (recordsWritten counts payoffs p opponents room) ≡ strategies
+  records-strategies = map-map (λ (r : BestResponse). r .strategy) recordOf strategies ∙ map-id strategies
+
+  -- and their utilities are the payoffs of these
+  pub records-utilities : map (λ (r : BestResponse). valueOf (r .utility)) (recordsWritten counts payoffs p opponents room)
+      ≡ responseUtilities counts payoffs p opponents strategies
+  unfolding responseUtilities
+  records-utilities = map-map (λ (r : BestResponse). valueOf (r .utility)) recordOf strategies
