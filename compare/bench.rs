@@ -69,7 +69,7 @@ fn finite(name: &str, payoffs: &[f64]) {
 fn matrix(counts: &[usize], payoffs: &[f64]) {
     let payoffs = &payoffs[..counts.len() * counts.iter().product::<usize>()];
     row(
-        &format!("PayoffMatrix::new, {}", shape(counts)),
+        &format!("payoff_matrix, {}", shape(counts)),
         || library::payoff_matrix_new(black_box(counts), black_box(payoffs)),
         || rust::table(black_box(counts), black_box(payoffs)),
     );

@@ -56,6 +56,9 @@ static void solvers(void) {
     expect("best_response_records", sigvanyor_best_response_records(counts, 2, payoffs, 8, 0, &opponent, 1, responses, 1, &number) == 0);
     expect("best_response_records", number == 1 && responses[0].strategy == 1 && responses[0].utility == 3);
     expect("best_response_records", responses[1].strategy == 9 && responses[1].utility == -1);
+    const double equal[] = {1, 1, 1, 1, 1, 1, 1, 1};
+    expect("best_response_records", sigvanyor_best_response_records(counts, 2, equal, 8, 0, &opponent, 1, responses, 2, &number) == 0);
+    expect("best_response_records", number == 2 && responses[0].strategy == 0 && responses[1].strategy == 1 && responses[1].utility == 1);
     expect("is_equilibrium", sigvanyor_is_equilibrium(counts, 2, payoffs, 8, profile, 1, &equilibrium) == 11 && !equilibrium);
     expect("is_equilibrium", sigvanyor_is_equilibrium(counts, 2, payoffs, 8, profile, 2, &equilibrium) == 0 && equilibrium);
     number = 99;

@@ -560,20 +560,21 @@ impl Lists {
 }
 
 /// A record of a list of best responses, as C has it.
+#[allow(dead_code)]
 #[repr(C)]
 struct BestResponse {
     strategy: usize,
     utility: f64,
 }
 
-/// The outputs of a call that lists records: a number, and a slice with the words of so many records.
+/// The outputs of a call that lists records: a number, and a slice with the words of as many records as a caller likes.
 pub struct Records {
     number: Output<1>,
     words: Slice,
 }
 
 impl Records {
-    const WORDS: usize = size_of::<BestResponse>() / size_of::<u64>();
+    const WORDS: usize = std::mem::size_of::<BestResponse>() / std::mem::size_of::<u64>();
 
     pub fn fresh(length: usize) -> Self {
         Self {
@@ -587,19 +588,15 @@ impl Records {
     }
 
     /// The answer of a call that wrote here.
-    pub fn answer(&mut self, status: u32) -> Answer<Listing<Bits>> {
-        let told = self.number.numbers()[0];
-        let outputs = [self.words.wrong(status, told.saturating_mul(Self::WORDS))];
-        let place = self.words.place::<BestResponse>();
+    pub fn answer(&self, status: u32) -> Answer<Listing<Bits>> {
+        let told = self.number.numbers()[0].saturating_mul(Self::WORDS);
+        let outputs = [self.words.wrong(status, told)];
         answer_slices(status, outputs, &self.number, |number| {
-            let records = unsafe { std::slice::from_raw_parts(place, number) };
+            let records = self.words.first(told).chunks_exact(Self::WORDS);
             Listing {
                 number,
-                first: records.iter().map(|record| record.strategy).collect(),
-                second: records
-                    .iter()
-                    .map(|record| Bits::of(record.utility))
-                    .collect(),
+                first: records.clone().map(|record| record[0] as usize).collect(),
+                second: records.map(|record| Bits(record[1])).collect(),
             }
         })
     }

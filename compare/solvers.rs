@@ -36,7 +36,7 @@ pub struct Solvers {
 }
 
 impl Solvers {
-    /// Both lists of best responses: into two outputs, and as records into one, of the first one's length.
+    /// Both lists of best responses: into two outputs, and as records into one of each length that the first one has.
     fn responses(&mut self, judged: &Judged, player: usize, opponents: &[usize], rooms: &[Room]) {
         let listing = judged.best_responses(player, opponents);
         let input = || numbers("player", &[player]) + &numbers("opponents", opponents);
@@ -52,8 +52,11 @@ impl Solvers {
                 lists.answer(status, 1, Bits)
             },
         );
-        for room in rooms {
-            let [length, _] = lengths(&listing, *room);
+        let of_first = |room: &Room| lengths(&listing, *room)[0];
+        let mut lent: Vec<usize> = rooms.iter().map(of_first).collect();
+        lent.sort_unstable();
+        lent.dedup();
+        for length in lent {
             let (by, judge) = judged.lent(&listing, [length; 2]);
             let mut records = Records::fresh(length);
             let status =

@@ -108,7 +108,8 @@ typedef struct {
     double utility;
 } sigvanyor_best_response;
 
-/* The same into one list of records. */
+/* As sigvanyor_best_responses, with a record for each best response, the payoff's bits kept, into `responses`, and how many they are
+ * into `number`; or 1 to 7, 8, 9, 10, 13. */
 uint32_t sigvanyor_best_response_records(const size_t *counts, size_t counts_len, const double *payoffs, size_t payoffs_len,
                                          size_t player, const size_t *opponents, size_t opponents_len,
                                          sigvanyor_best_response *responses, size_t responses_len, size_t *number);

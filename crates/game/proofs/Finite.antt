@@ -201,6 +201,7 @@ module _ {A B : Type 0} (f : A → List B) where
   to-flatMap (x ∷ xs) a b h k =
       ⊎-elim (λ (e : a ≡ x). append-left (flatMap f xs) (rw e at k)) (λ l. append-right (f x) (to-flatMap xs a b l k)) (in-cons h)
 
+  -- the lists of two parts, one after the other
   pub flatMap-append : (xs ys : List A) → flatMap f (xs ++ ys) ≡ flatMap f xs ++ flatMap f ys
   unfolding flatMap
   flatMap-append [] ys = refl

@@ -1,6 +1,6 @@
--- What the answer for a list, its number and its records say of each other, as the contracts of `find_responses` and `responses_of` give
--- them: the records fit into the answer's array and into the list (`number-few`, `number-fits`), and the first `number` records of the array
--- are those to be written (`delivered`). Assumes nothing.
+-- What the answer for a list, its number and its records say of each other, as the contracts of `find_responses` and of
+-- `view_fields::responses_of` give them: the records fit into the answer's array and into the list (`number-few`, `number-fits`), and the first
+-- `number` records of the array are those to be written (`delivered`). Assumes nothing.
 use mathlib.Core.Path.{_≡_, refl, sym, ap, _∙_}
 use mathlib.Core.Bool.{Bool, true, false}
 use mathlib.Core.List.{List}

@@ -1,5 +1,7 @@
--- An element of an array that lies in a local, alone or in a field of a struct: beside `Types/Part.antt`'s `sub`. It says nothing of the crate, and can be copied as it stands.
---     item k       element k of an array's cell that a `Part` finds. So `look-in ! n (item ! us k d … (sub ! 1 refl (whole !)))` reads element k of field 1 of a local. k is any number below the array's length
+-- An element of an array that lies in a local, alone or in a field of a struct: beside `Types/Part.antt`'s `sub`.
+-- It says nothing of the crate.
+--     item k       element k of an array's cell that a `Part` finds. So `look-in ! n (item ! us k d … (sub ! 1 refl (whole !)))` reads element k of
+--         field 1 of a local. k is any number below the array's length
 --     element-is   what an array's relation says of element k, at the machine value that the element's laws spell
 -- Assumes `Given` (of it `at-elems` and `elems-at`); `element-is` assumes nothing.
 use mathlib.Core.Path.{_≡_, refl, _∙_, ap, subst}

@@ -1,4 +1,4 @@
--- The list of best responses as records, the Rust's `Vec<BestResponse>`. Assumes nothing.
+-- Document 01, "Best responses, dominance, equilibria": the list of best responses as records, the Rust's `Vec<BestResponse>`. Assumes nothing.
 use mathlib.Core.List.{List, map}
 use Prim.Native.Nat.{ℕ}
 use lib.ListN.{replicate}

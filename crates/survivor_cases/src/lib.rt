@@ -1,4 +1,4 @@
-// Survivors and the answers beside them as the test programs at the limits print them.
+// Survivors and the answers beside them as the test programs print them.
 use cases::number;
 use cases::numbers;
 use cases::refused;

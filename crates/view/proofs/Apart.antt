@@ -1,5 +1,7 @@
--- A view taken apart: what the proofs of its methods share. Each method reads the three fields and calls a function on them, before the method's other parameters and in their order.
---     view-lft κ       the view's lifetime in a method's signature.        view-val, view-vals, view-tells     its machine value, which its relation tells
+-- A view taken apart: what the proofs of its methods share. Each method reads the three fields and calls a function on them, before the method's
+-- other parameters and in their order.
+--     view-lft κ       the view's lifetime in a method's signature
+--     view-val, view-vals, view-tells     its machine value, which its relation tells
 --     view-typed       the machine value has the view's type, and so each field's.        view-counts      the counts field's relation
 --     apart            what a view owns gives what the callee asks for its first three parameters: the tokens and what the other parameters own stay
 --     both             two facts are one
@@ -25,6 +27,7 @@ use denote.Slice.{ShrSlice}
 use denote.Steps.{owned, nothing}
 use denote.Struct.Laws as LL
 use denote.Struct.Rest.{all-own, own-open}
+use Rattle.table.specs.Limits.{maxPlayers}
 use Rattle.view.specs.declared.PayoffMatrix.{PayoffMatrix}
 use Rattle.response_list.proofs.Steps.{slice-val}
 use Rattle.view.proofs.Counts.{field-list, counts-vals, counts-out, counts-makes}
@@ -48,7 +51,7 @@ both 𝓤 φ ψ =
     fact-use 𝓤 φ (fst∗ 𝓤 (fact 𝓤 φ) (fact 𝓤 ψ)) (λ x. fact-use 𝓤 ψ (snd∗ 𝓤 (fact 𝓤 φ) (fact 𝓤 ψ)) (λ y. factI 𝓤 (φ × ψ) _ (x, y)))
 
 module _ (κ : Lft) (d : PayoffMatrix) (is : Is (T.the-row (view-lft κ)) d (view-vals κ d)) where
-  pub view-counts : Is (Array usize 8) (field-list (d .counts)) (counts-vals (d .counts))
+  pub view-counts : Is (Array usize maxPlayers) (field-list (d .counts)) (counts-vals (d .counts))
   view-counts = LL.owed (T.the-type (view-lft κ)) (T′.the-laws (view-lft κ)) d _ is .1 .1 .0
 
   module _ {M : Type 1} (𝓤 : URA M) (H : Heap 𝓤) (A : Atoms 𝓤) (W : Given 𝓤 H A) where
@@ -57,12 +60,12 @@ module _ (κ : Lft) (d : PayoffMatrix) (is : Is (T.the-row (view-lft κ)) d (vie
 
     -- Q: the tokens.  F: what the other parameters own
     pub apart : (Q : SProp 𝓤) (F : Fml) → ent 𝓤 (sep 𝓤 Q (sem 𝓤 H A (fsep (T.the-row (view-lft κ) .own d (view-vals κ d)) F)))
-        (sep 𝓤 (sep 𝓤 Q (sem 𝓤 H A (fsep (ShrSlice (named 0) κ f64 .own (d .payoffs) (slice-val (d .payoffs) ∷ [])) (fsep (usize .own (d .players) (vint w64 (d .players) ∷ [])) (fsep (Array usize 8 .own (d .counts) (counts-vals (d .counts))) F))))) (emp 𝓤))
+        (sep 𝓤 (sep 𝓤 Q (sem 𝓤 H A (fsep (ShrSlice (named 0) κ f64 .own (d .payoffs) (slice-val (d .payoffs) ∷ [])) (fsep (usize .own (d .players) (vint w64 (d .players) ∷ [])) (fsep (Array usize maxPlayers .own (d .counts) (counts-vals (d .counts))) F))))) (emp 𝓤))
     apart Q F =
         qed W (raw Q ∷ ‵ (fsep (T.the-row (view-lft κ) .own d (view-vals κ d)) F) ∷ []) ∵
         move ! (1 ∷ []) $ fsplit ! $ use1 W (given (view-vals κ d ≡ view-vals κ d) (‵ (all-own (T.the-type (view-lft κ) .parts) (T′.the-laws (view-lft κ)) (d .payoffs, (d .players, (d .counts, tt))))))
         (own-open 𝓤 H A W (T.the-type (view-lft κ)) (T′.the-laws (view-lft κ)) (d .payoffs, (d .players, (d .counts, tt))) (view-val κ d)) $ learn ! (λ _. fsplit ! $ move ! (1 ∷ []) $ drop ! $
         -- [what payoffs owns; F; Q]
-        move ! (1 ∷ []) $ owned ! (Array usize 8) (Is (Array usize 8)) (counts-makes 𝓤 H A W) (d .counts) _ (counts-out (d .counts) _ view-counts) $ fjoin ! $
+        move ! (1 ∷ []) $ owned ! (Array usize maxPlayers) (Is (Array usize maxPlayers)) (counts-makes 𝓤 H A W) (d .counts) _ (counts-out (d .counts) _ view-counts) $ fjoin ! $
         owned ! usize (Is usize) (uint-makes 𝓤 H A W w64) (d .players) _ (refl, view-typed .1 .1 .0 .fits) $ fjoin ! $ move ! (1 ∷ 0 ∷ []) $ fjoin ! $
         move ! (1 ∷ 0 ∷ []) $ join ! $ nothing ! $ move ! (1 ∷ 0 ∷ []) $ done !)

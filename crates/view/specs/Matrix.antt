@@ -1,4 +1,4 @@
--- The table that a view holds. Assumes nothing.
+-- Document 01, "Strikes", on the view of a table: the table that it holds. Assumes nothing.
 use mathlib.Core.List.{List}
 use Prim.Native.Nat.{ℕ}
 use Rattle.view_fields.specs.Counts.{firstCounts}

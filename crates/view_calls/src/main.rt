@@ -1,6 +1,7 @@
-// The list of records of `response_list`, and the calls of `view` on a view, whose fields are whatever a case puts there. A line for each call: a short
-// name, and what the call told, which is `ok` with its value or `refused` with the refusal's number. After outputs, which stand whole, each
-// element 100 before the call, come survivors, as `survivor_cases` prints them. Of a list of records the first four stand there and the last.
+// The list of records of `response_list`, and the calls of `view`, on views whose fields are whatever a case puts there. A line for each call:
+// a short name, and what the call told, which is `ok` with its value or `refused` with the refusal's number; then its outputs whole, each
+// element 100 before the call, or the survivors, as `survivor_cases` prints them. Of a list of records the first four stand there and the last.
+// The sizes come from the limits of `table`; counts 8 8 16 16 and 8 8 16 17 are document 01's.
 use cases::fill;
 use cases::first;
 use cases::float;
@@ -277,57 +278,84 @@ fn places_past() {
 
 // P over 8 gives 2 before any count is read, and P 0 gives 1.
 fn players(payoffs: &[f64]) {
+    let most = MAX_PLAYERS;
     let ones = [1; MAX_PLAYERS];
     let mut last = ones;
     last[MAX_PLAYERS - 1] = 2;
     let none = first(payoffs, 0);
-    let all = first(payoffs, 16);
+    let all = first(payoffs, 2 * MAX_PLAYERS);
     let others = [0; MAX_PLAYERS - 1];
     let same = [0; MAX_PLAYERS];
     of_view(
-        b"P 8",
-        first(payoffs, 8),
-        MAX_PLAYERS,
+        b"the most players",
+        first(payoffs, most),
+        most,
         ones,
         0,
         &others,
         &same,
     );
     of_view(
-        b"P 8, counts 1 and a last 2",
+        b"the most players, the last with 2",
         all,
-        MAX_PLAYERS,
+        most,
         last,
-        7,
+        most - 1,
         &others,
         &same,
     );
     of_view(
-        b"P 9",
-        first(payoffs, 9),
-        MAX_PLAYERS + 1,
+        b"a player too many",
+        first(payoffs, most + 1),
+        most + 1,
         ones,
-        8,
+        most,
         &same,
         &same,
     );
     of_view(
-        b"P 9, counts 0",
+        b"a player too many, counts 0",
         all,
-        MAX_PLAYERS + 1,
+        most + 1,
         [0; MAX_PLAYERS],
-        8,
+        most,
         &same,
         &same,
     );
     of_view(b"the greatest P", none, usize::MAX, ones, 0, &others, &same);
     of_view(b"P 0", none, 0, ones, 0, &[], &[]);
     of_view(b"P 0, counts 0", all, 0, [0; MAX_PLAYERS], 0, &[], &[]);
-    of_view(b"P 7 of 8", all, MAX_PLAYERS - 1, last, 6, &others, &same);
+}
+
+// One player less than the most.
+fn a_player_less(payoffs: &[f64]) {
+    let most = MAX_PLAYERS;
+    let mut counts = [1; MAX_PLAYERS];
+    counts[MAX_PLAYERS - 1] = 0;
+    let others = [0; MAX_PLAYERS - 2];
+    let same = [0; MAX_PLAYERS - 1];
+    of_view(
+        b"a player less",
+        first(payoffs, most - 1),
+        most - 1,
+        counts,
+        most - 2,
+        &others,
+        &same,
+    );
+    of_view(
+        b"a player less, and a payoff more",
+        first(payoffs, most),
+        most - 1,
+        counts,
+        0,
+        &others,
+        &same,
+    );
 }
 
 // The other refusals of a table, and of each call.
-fn faults(large: &mut [f64]) {
+fn faults() {
     let mut counts = [2; MAX_PLAYERS];
     of_view(
         b"one payoff too few",
@@ -348,51 +376,19 @@ fn faults(large: &mut [f64]) {
         &[1, 1],
         &[1, 1, 1],
     );
+    of_view(b"too few choices", &DILEMMA, 2, counts, 0, &[], &[1]);
     of_view(b"no such choice", &DILEMMA, 2, counts, 1, &[2], &[2, 1]);
     counts[1] = 0;
     of_view(b"no strategies", &DILEMMA, 2, counts, 0, &[1], &[1, 1]);
     counts[1] = MAX_STRATEGIES + 1;
     of_view(
-        b"too many strategies",
+        b"a strategy too many",
         &DILEMMA,
         2,
         counts,
         0,
         &[1],
         &[1, 1],
-    );
-    counts[0] = 8;
-    counts[1] = 8;
-    counts[2] = 16;
-    counts[3] = 17;
-    of_view(
-        b"too many cells",
-        large,
-        4,
-        counts,
-        0,
-        &[0, 0, 0],
-        &[0, 0, 0, 0],
-    );
-    counts[3] = 16;
-    of_view(
-        b"8 8 16 16",
-        large,
-        4,
-        counts,
-        3,
-        &[7, 7, 15],
-        &[7, 7, 15, 15],
-    );
-    put(large, MAX_CELLS - 1, 0.0 / 0.0);
-    of_view(
-        b"8 8 16 16 and a NaN",
-        large,
-        4,
-        counts,
-        3,
-        &[7, 7, 15],
-        &[7, 7, 15, 15],
     );
 }
 
@@ -401,15 +397,29 @@ fn equal_strategies() {
     let mut payoffs = [1.0; MAX_STRATEGIES];
     let mut counts = [0; MAX_PLAYERS];
     counts[0] = MAX_STRATEGIES;
-    responses(b"64 equal", &payoffs, 1, counts, 0, &[]);
+    responses(b"the most, all equal", &payoffs, 1, counts, 0, &[]);
     payoffs[0] = 0.0;
-    responses(b"64, the first less", &payoffs, 1, counts, 0, &[]);
-    text(b"64 equal, less the first: list");
+    responses(b"the most, the first less", &payoffs, 1, counts, 0, &[]);
+    text(b"the most, the first less: list");
     told_list(response_list::listed_best_responses(&[MAX_STRATEGIES], &payoffs, 0, &[], list()));
 }
 
-// Survivors of another table.
-fn foreign() {
+// Outputs that are exactly full, and one short.
+fn rooms(payoffs: &[f64]) {
+    let equal = [1.0; 14];
+    let mut counts = [1; MAX_PLAYERS];
+    counts[1] = ROOM / 2;
+    equilibria(b"exactly full", first(&equal, ROOM), 2, counts);
+    counts[1] = ROOM / 2 + 1;
+    equilibria(b"too long by one", first(&equal, ROOM + 2), 2, counts);
+    counts[0] = ROOM + 1;
+    dominated(b"exactly full", first(payoffs, ROOM + 1), 1, counts, 0);
+    counts[0] = ROOM + 2;
+    dominated(b"too long by one", first(payoffs, ROOM + 2), 1, counts, 0);
+}
+
+// Survivors of another table, and a strategy that is none.
+fn strikes() {
     let counts = [2; MAX_PLAYERS];
     let mut of_three = counts;
     of_three[0] = 3;
@@ -432,36 +442,61 @@ fn foreign() {
         0,
         0,
     );
+    strike(
+        b"one player with 3",
+        &[1.0, 5.0, 5.0],
+        1,
+        of_three,
+        all,
+        0,
+        3,
+    );
 }
 
-// Views of tables that are refused, and a strike on one.
-fn refused_views(payoffs: &[f64]) {
-    let over = MAX_STRATEGIES + 1;
+// Tables that are refused, and every call on the view beside the refusal.
+fn refused_tables(payoffs: &[f64]) {
+    let most = MAX_STRATEGIES;
+    let many = [1; MAX_PLAYERS + 1];
     of_table(b"no players", &[], first(payoffs, 0), 0, &[], &[]);
     of_table(
-        b"nine players",
-        &[1; MAX_PLAYERS + 1],
-        first(payoffs, 9),
+        b"a player too many",
+        &many,
+        first(payoffs, MAX_PLAYERS + 1),
         0,
         &[0; MAX_PLAYERS],
-        &[0; MAX_PLAYERS + 1],
+        &many,
     );
     of_table(
-        b"a count over 64",
-        &[over],
-        first(payoffs, over),
+        b"no strategies",
+        &[2, 0],
+        first(payoffs, 0),
+        0,
+        &[0],
+        &[0, 0],
+    );
+    of_table(
+        b"a strategy too many",
+        &[most + 1],
+        first(payoffs, most + 1),
         0,
         &[],
         &[0],
     );
     of_table(
-        b"small, one payoff too many",
+        b"small, a payoff too many",
         &[2, 3, 4],
         first(payoffs, SMALL + 1),
         0,
         &[0, 0],
         &[0, 0, 0],
     );
+}
+
+// Tables that are accepted, at the limits.
+fn accepted_tables(payoffs: &[f64]) {
+    let most = MAX_STRATEGIES;
+    let ones = [1; MAX_PLAYERS];
+    let others = [0; MAX_PLAYERS - 1];
     of_table(
         b"small",
         &[2, 3, 4],
@@ -469,6 +504,52 @@ fn refused_views(payoffs: &[f64]) {
         2,
         &[1, 2],
         &[1, 2, 3],
+    );
+    of_table(
+        b"the most players",
+        &ones,
+        first(payoffs, MAX_PLAYERS),
+        0,
+        &others,
+        &[0; MAX_PLAYERS],
+    );
+    of_table(
+        b"the most strategies",
+        &[most],
+        first(payoffs, most),
+        0,
+        &[],
+        &[most - 1],
+    );
+}
+
+// The most cells, some too many, and a NaN among the most.
+fn cells(payoffs: &mut [f64]) {
+    let counts = [8, 8, 16, 16];
+    of_table(
+        b"8 8 16 17",
+        &[8, 8, 16, 17],
+        payoffs,
+        0,
+        &[0, 0, 0],
+        &[0, 0, 0, 0],
+    );
+    of_table(
+        b"8 8 16 16",
+        &counts,
+        payoffs,
+        3,
+        &[7, 7, 15],
+        &[7, 7, 15, 15],
+    );
+    put(payoffs, MAX_CELLS - 1, 0.0 / 0.0);
+    of_table(
+        b"8 8 16 16 and a NaN",
+        &counts,
+        payoffs,
+        3,
+        &[7, 7, 15],
+        &[7, 7, 15, 15],
     );
 }
 
@@ -478,8 +559,12 @@ fn main() {
     games();
     places_past();
     players(&payoffs);
+    a_player_less(&payoffs);
+    faults();
     equal_strategies();
-    foreign();
-    refused_views(&payoffs);
-    faults(&mut payoffs);
+    rooms(&payoffs);
+    strikes();
+    refused_tables(&payoffs);
+    accepted_tables(&payoffs);
+    cells(&mut payoffs);
 }

@@ -46,7 +46,7 @@ firstCounts-none counts payoffs =
     ap (λ (r : Refusal). r then payoffsRefusal (firstCounts 0 counts) payoffs)
     (no-players (firstCounts 0 counts) (firstCounts-length 0 counts))
 
--- The table that an accepted view holds is the table that it was made of.
+-- The counts that the fields of an accepted table hold are the table's.
 pub view-of : (counts : List ℕ) (payoffs : List Float) → tableRefusal counts payoffs ≡ none
     → firstCounts (spaceOf counts .players) (spaceOf counts .counts) ≡ counts
 unfolding firstCounts spaceOf

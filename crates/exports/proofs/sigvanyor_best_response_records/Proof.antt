@@ -1,4 +1,6 @@
--- `sigvanyor_best_response_records` meets its contract: a walk of its MIR, by hand. `best_responses` is called on what came in, and the slice of records is passed on for good (`gave-slice`); then `usize_into` is called on its answer and on `number`, which is passed on for good too (`gave-ref`).
+-- `sigvanyor_best_response_records` meets its contract: a walk of its MIR, by hand. `best_responses` is called on what came in, and the slice of
+-- records is passed on for good (`gave-slice`); then `usize_into` is called on its answer and on `number`, which is passed on for good too
+-- (`gave-ref`).
 -- Assumes nothing.
 use mathlib.Core.Path.{_≡_, refl, _∙_, ap}
 use Prim.Native.Nat.{ℕ, _<_, _^_}
@@ -141,7 +143,8 @@ module _ {M : Type 1} (𝓤 : URA M) (H : Heap 𝓤) (A : Atoms 𝓤) (W : Given
   abbrev Listed : UsizeResult → List BestResponse → Type 0
   Listed r zs = (toldUsize r ≡ told) × (zs ≡ records)
 
-  -- ---- `usize_into`: what it is passed, where `best_responses` gave r with the machine value u. Here too the borrow goes at its own lifetime, share and name
+  -- ---- `usize_into`: what it is passed, where `best_responses` gave r with the machine value u. Here too the borrow goes at its own lifetime, share
+  -- and name
   abbrev to-into : UsizeResult → Val → Into 𝓤 H A mem run .Ghost
   to-into r u = (((κ₄, tt), (q₄, tt), tt, (r, (y, tt)), (u ∷ [], (v₄ ∷ [], tt))), tt)
 

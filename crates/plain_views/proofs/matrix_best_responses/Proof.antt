@@ -1,5 +1,8 @@
--- `plain_views::matrix_best_responses` meets its contract: a walk of its MIR, by hand. A view is made of the first three parameters in a local, and the list, copied into a local, is lent as a slice for a lifetime that is made for the call. `PayoffMatrix::best_responses` is called on them, the lifetime ends, and the list comes back at the slice's last list, beside the answer.
--- All that the proof knows of the method is that it meets its contract. At exit nothing is had of the parameters (`stay-dropped`: none of them has a last value), so what the payoffs and the opponents own goes to the method.
+-- `plain_views::matrix_best_responses` meets its contract: a walk of its MIR, by hand. A view is made of the first three parameters in a local, and
+-- the list, copied into a local, is lent as a slice for a lifetime that is made for the call. `PayoffMatrix::best_responses` is called on them, the
+-- lifetime ends, and the list comes back at the slice's last list, beside the answer.
+-- At exit nothing is had of the parameters (`stay-dropped`: none of them has a last value), so what the payoffs and the opponents own goes to the
+-- method.
 -- Assumes nothing.
 use mathlib.Core.Path.{_≡_, refl, sym, _∙_, subst}
 use Prim.Native.Nat.{ℕ, _<_, _^_}
@@ -48,6 +51,7 @@ use denote.Triple.Table.{entered, cited}
 use denote.Triple.Walked.{says, Stays, stay-dropped, walkOf, goes-dropped, Walks, ends-at, walked, walk-meets}
 use denote.Exit.{yes}
 use denote.Triple.Clauses.{Lasts, ensured, lasts}
+use Rattle.table.specs.Limits.{maxPlayers, maxStrategies}
 use Rattle.refusal.specs.Told.{toldUsize}
 use Rattle.refusal.specs.declared.UsizeResult.{UsizeResult}
 use Rattle.refusal.proofs.UsizeResult as U
@@ -103,7 +107,7 @@ module _ {M : Type 1} (𝓤 : URA M) (H : Heap 𝓤) (A : Atoms 𝓤) (W : Given
       (toldUsize r ≡ recordsAnswer (firstCounts n cs) (now s) player (now opponents) m)
       × (zs ≡ over (recordsWritten (firstCounts n cs) (now s) player (now opponents) m) ys)
 
-  exits : (r : UsizeResult) (w : Val) (zs : List BestResponse) → Said 64 r zs → Is U.the-row r (w ∷ []) → Is Records zs (records-vals zs) → ent 𝓤 (⋆ 𝓤 H A (‵ (flft κ q) ∷ ‵ (flft κ₁ q₁) ∷ [])) (Post (list-val w zs))
+  exits : (r : UsizeResult) (w : Val) (zs : List BestResponse) → Said maxStrategies r zs → Is U.the-row r (w ∷ []) → Is Records zs (records-vals zs) → ent 𝓤 (⋆ 𝓤 H A (‵ (flft κ q) ∷ ‵ (flft κ₁ q₁) ∷ [])) (Post (list-val w zs))
   exits r w zs e is-r is-zs =
       qed W (‵ (flft κ q) ∷ ‵ (flft κ₁ q₁) ∷ []) ∵
       suffices ! _ (ends-at 𝓤 H A f.ended stayed (f.clauses 𝓤 H A mem′ run) W ((κs, qs, tt, a, vals), tt) (list-val w zs) (record { answer = r; records = zs }) (tt, (tt, (tt, (tt, (tt, (tt, tt)))))) (tt, (tt, (tt, (tt, (tt, (tt, tt))))))) $ says ! e $
@@ -111,7 +115,7 @@ module _ {M : Type 1} (𝓤 : URA M) (H : Heap 𝓤) (A : Atoms 𝓤) (W : Given
       owned ! R.the-row (Is R.the-row) (LL.makes R.the-type R′.the-plain 𝓤 H A) (record { answer = r; records = zs }) _ (list-is r zs w is-r is-zs) $
       nothing ! $ nothing ! $ fjoin ! $ nothing ! $ fjoin ! $ nothing ! $ fjoin ! $ nothing ! $ fjoin ! $ nothing ! $ fjoin ! $ nothing ! $ fjoin ! $ done !
 
-  module _ (p : Is (ShrSlice (named 0) κ f64) s (slice-val s ∷ [])) (fits : n < 2 ^ 64) (is : Is (Array usize 8) (field-list cs) (counts-vals cs)) (player-fits : player < 2 ^ 64) (of-opponents : Is (ShrSlice (named 1) κ₁ usize) opponents (slice-val opponents ∷ [])) (is-ys : Is Records ys (records-vals ys)) (full : length ys ≡ 64) where
+  module _ (p : Is (ShrSlice (named 0) κ f64) s (slice-val s ∷ [])) (fits : n < 2 ^ 64) (is : Is (Array usize maxPlayers) (field-list cs) (counts-vals cs)) (player-fits : player < 2 ^ 64) (of-opponents : Is (ShrSlice (named 1) κ₁ usize) opponents (slice-val opponents ∷ [])) (is-ys : Is Records ys (records-vals ys)) (full : length ys ≡ maxStrategies) where
     -- the slice that is lent, for the lifetime ν: of the array in the local l, under the name γ
     abbrev x : ℕ → GName → RefT (List BestResponse)
     x l γ = record { ptr = (l, 0); name = γ; now = ys }
@@ -131,7 +135,7 @@ module _ {M : Type 1} (𝓤 : URA M) (H : Heap 𝓤) (A : Atoms 𝓤) (W : Given
 
     goes : (ν l : ℕ) (γ : GName) → ent 𝓤 (sep 𝓤 (A .lft (ν ∷ []) fullShare) (sep 𝓤 (sem 𝓤 H A (MutSlice (named 2) (ν ∷ []) T.the-row .own (x l γ) (out l ∷ []))) (onEntry 𝓤 H A f.signature κs qs a vals))) (Method 𝓤 H A mem′ run .pre (to ν l γ))
     goes ν l γ =
-        qed W (‵ (flft (ν ∷ []) fullShare) ∷ ‵ (MutSlice (named 2) (ν ∷ []) T.the-row .own (x l γ) (out l ∷ [])) ∷ (‵ (flft κ q) ⊛ ‵ (flft κ₁ q₁) ⊛ ‵ ftrue) ∷ ‵ (owns (ShrSlice (named 0) κ f64 ∷ usize ∷ Array usize 8 ∷ usize ∷ ShrSlice (named 1) κ₁ usize ∷ Records ∷ []) a vals) ∷ []) ∵
+        qed W (‵ (flft (ν ∷ []) fullShare) ∷ ‵ (MutSlice (named 2) (ν ∷ []) T.the-row .own (x l γ) (out l ∷ [])) ∷ (‵ (flft κ q) ⊛ ‵ (flft κ₁ q₁) ⊛ ‵ ftrue) ∷ ‵ (owns (ShrSlice (named 0) κ f64 ∷ usize ∷ Array usize maxPlayers ∷ usize ∷ ShrSlice (named 1) κ₁ usize ∷ Records ∷ []) a vals) ∷ []) ∵
         move ! (3 ∷ []) $ fsplit ! $ use1 W (‵ (Matrix.the-row (view-lft κ) .own (made s n cs) (made-val s n cs κ ∷ []))) (owns-made s n cs 𝓤 H A W κ p fits is) $
         move ! (1 ∷ []) $ fsplit ! $ drop ! $ fsplit ! $ drop ! $ fsplit ! $ move ! (1 ∷ []) $ fsplit ! $
         -- [what opponents owns; what records owns; what player owns; what the view owns; ν's token; what the slice owns; the tokens]
@@ -157,7 +161,8 @@ module _ {M : Type 1} (𝓤 : URA M) (H : Heap 𝓤) (A : Atoms 𝓤) (W : Given
           move ! (12 ∷ []) $ use1 W (‵ (cells (mem T.the-row) ys l₇ 0)) (lies-in 𝓤 H A W l₇ ys is-ys) $ lft-new ! tt (λ ν. move ! (1 ∷ []) $
           use1 W (later (some (λ (γ : GName). ‵ (MutSlice (named 2) (ν ∷ []) T.the-row .own (x l₇ γ) (out l₇ ∷ [])) ⊛ ‵ (flent (ν ∷ []) (Held T.the-row (length ys) l₇ 0 γ))))) (lends-slice 𝓤 H A W T.the-row (named 2) (ν ∷ []) ys l₇ 0 (records-room ys full)) $ await ! tt $ pick ! (λ γ.
           split ! $ move ! (2 ∷ 0 ∷ 30 ∷ []) $ use3 W (raw (Method 𝓤 H A mem′ run .pre (to ν l₇ γ))) (goes ν l₇ γ) $
-          -- [the method's pre; the lender's part; _13; …; _12; …; _11; …; _10; …; _9; …; _8; …; that _7 dies; _6; …; _5; …; _4; …; _3; …; _2; …; _1; …; room for _0; …]
+          -- [the method's pre; the lender's part; _13; …; _12; …; _11; …; _10; …; _9; …; _8; …; that _7 dies; _6; …; _5; …; _4; …; _3; …; _2; …; _1;
+          -- …; room for _0; …]
           calls-at ! fm (Method 𝓤 H A mem′ run) known (to ν l₇ γ) (and-then ! (load ! (from ! (stop !)) (look ! 8 refl)) (and-then ! (load ! (from ! (stop !)) (look ! 19 refl)) (and-then ! (load ! (from ! (stop !)) (look ! 17 refl)) (and-then ! (load ! (from ! (stop !)) (look ! 4 refl)) (no-more !))))) (λ w.
           use1 W (later (some (λ (r : UsizeResult). ((‵ (flft κ q) ⊛ ‵ (flft κ₁ q₁) ⊛ ‵ (flft (ν ∷ []) fullShare) ⊛ ‵ ftrue) ⊛ ‵ (U.the-row .own r (w ∷ []))) ⊛ raw (ensured 𝓤 H A method.ended (method.clauses 𝓤 H A mem′ run) (κs′ ν) (args ν l₇ γ) tt r)))) (id⊢ 𝓤 _) $ await ! tt $ pick ! (λ r.
           split ! $ move ! (1 ∷ []) $ use1 W (some (λ (ws : Lasts method.ended (κs′ ν) (args ν l₇ γ)). ‵ (lasts method.ended (κs′ ν) (args ν l₇ γ) ws) ⊛ raw (fact 𝓤 (Said (length ys) r (ws .1 .1 .1 .0))))) (id⊢ 𝓤 _) $ pick ! (λ ws.
@@ -170,7 +175,8 @@ module _ {M : Type 1} (𝓤 : URA M) (H : Heap 𝓤) (A : Atoms 𝓤) (W : Given
           use3 W (later (‵ (Arr (mem T.the-row) (length ys) .lies (ws .1 .1 .1 .0) l₇ 0))) (slice-back 𝓤 H A W T.the-row (ν ∷ []) γ (ws .1 .1 .1 .0) (length ys) l₇ 0) $ await ! tt $ fsplit ! $ drop ! $
           use1 W (‵ (fat fullShare records-mir l₇ 0 (records-val (ws .1 .1 .1 .0))) ⊛ ‵ (Records .own (ws .1 .1 .1 .0) (records-vals (ws .1 .1 .1 .0)))) (lies-out 𝓤 H A W l₇ (ws .1 .1 .1 .0) (same ∙ full)) $ split ! $ move ! (1 ∷ []) $
           peeks ! Records (Is Records) (shows 𝓤 H A Records) (ws .1 .1 .1 .0) (records-vals (ws .1 .1 .1 .0)) (λ is-zs.
-          -- [what the array owns; _7; the result; true; κ₁'s; κ's; true; _13; …; _12; …; _11; …; _10; …; _9; …; _8; …; that _7 dies; _6; …; _5; …; _4; …; _3; …; _2; …; _1; …; room for _0; …]
+          -- [what the array owns; _7; the result; true; κ₁'s; κ's; true; _13; …; _12; …; _11; …; _10; …; _9; …; _8; …; that _7 dies; _6; …; _5; …;
+          -- _4; …; _3; …; _2; …; _1; …; room for _0; …]
           assigns ! (of-opd ! (load ! (from ! (stop !)) (look ! 1 refl))) (from ! (stop !)) (init ! 7 refl (records-lawful 𝓤 H A W .typed (ws .1 .1 .1 .0) _ is-zs .0)) $
           assigns ! (agg ! (and-then ! (load ! (from ! (stop !)) (look ! 15 refl)) (and-then ! (load ! (from ! (stop !)) (look ! 7 refl)) (no-more !)))) (from ! (stop !))
           (init ! 32 refl (LL.lawful R.the-type R′.the-laws 𝓤 H A W .typed (record { answer = r; records = ws .1 .1 .1 .0 }) _ (list-is r (ws .1 .1 .1 .0) w is-r is-zs) .0)) $
@@ -194,8 +200,8 @@ matrix-best-responses-meets 𝓤 H A W mem′ run 𝓣 known =
       (
         goes-dropped 𝓤 H A W 2 (plain (λ _. usize)) yes (λ κs x f. refl),
         (
-          goes-dropped 𝓤 H A W 2 (arrayOf (plain (λ _. usize)) 8) yes (λ κs x f. refl),
-          (goes-dropped 𝓤 H A W 2 (plain (λ _. usize)) yes (λ κs x f. refl), (goes-dropped 𝓤 H A W 2 (shrSliceOf (1 ∷ []) tt (plain (λ _. usize))) yes (λ κs x f. refl), (goes-dropped 𝓤 H A W 2 (arrayOf (plain (λ _. T.the-row)) 64) yes (λ κs x f. refl), tt))),
+          goes-dropped 𝓤 H A W 2 (arrayOf (plain (λ _. usize)) maxPlayers) yes (λ κs x f. refl),
+          (goes-dropped 𝓤 H A W 2 (plain (λ _. usize)) yes (λ κs x f. refl), (goes-dropped 𝓤 H A W 2 (shrSliceOf (1 ∷ []) tt (plain (λ _. usize))) yes (λ κs x f. refl), (goes-dropped 𝓤 H A W 2 (arrayOf (plain (λ _. T.the-row)) maxStrategies) yes (λ κs x f. refl), tt))),
         ),
       ),
     ) (f.clauses 𝓤 H A mem′ run)

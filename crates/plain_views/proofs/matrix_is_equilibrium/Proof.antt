@@ -1,5 +1,7 @@
--- `plain_views::matrix_is_equilibrium` meets its contract: a walk of its MIR, by hand. A view is made of the parameters in a local, and `PayoffMatrix::is_equilibrium` is called on it. All that the proof knows of the method is that it meets its contract.
--- At exit nothing is had of the parameters (`stay-dropped`: none of them has a last value), so what the payoffs own goes into the view, and what the profile owns to the method.
+-- `plain_views::matrix_is_equilibrium` meets its contract: a walk of its MIR, by hand. A view is made of the parameters in a local, and
+-- `PayoffMatrix::is_equilibrium` is called on it.
+-- At exit nothing is had of the parameters (`stay-dropped`: none of them has a last value), so what the payoffs own goes into the view, and what the
+-- profile owns to the method.
 -- Assumes nothing.
 use mathlib.Core.Path.{_≡_, refl}
 use Prim.Native.Nat.{ℕ, _<_, _^_}
@@ -39,6 +41,7 @@ use denote.Triple.Table.{entered, cited}
 use denote.Triple.Walked.{says, Stays, stay-dropped, walkOf, goes-dropped, Walks, ends-at, walked, walk-meets}
 use denote.Exit.{yes}
 use denote.Triple.Clauses.{ensured, lasts}
+use Rattle.table.specs.Limits.{maxPlayers}
 use Rattle.refusal.specs.Told.{toldBool}
 use Rattle.pure_nash.specs.Answers.{isEquilibriumAnswer}
 use Rattle.refusal.specs.declared.BoolResult.{BoolResult}
@@ -100,7 +103,7 @@ module _ {M : Type 1} (𝓤 : URA M) (H : Heap 𝓤) (A : Atoms 𝓤) (W : Given
       suffices ! _ (ends-at 𝓤 H A f.ended stayed (f.clauses 𝓤 H A mem run) W ((κs, qs, tt, a, vals), tt) w r (tt, (tt, (tt, (tt, tt)))) (tt, (tt, (tt, (tt, tt))))) $ says ! e $
       move ! (1 ∷ []) $ frame ! $ nothing ! $ nothing ! $ fjoin ! $ nothing ! $ fjoin ! $ nothing ! $ fjoin ! $ nothing ! $ fjoin ! $ done !
 
-  module _ (p : Is (ShrSlice (named 0) (κs .0) f64) s (slice-val s ∷ [])) (fits : n < 2 ^ 64) (is : Is (Array usize 8) (field-list cs) (counts-vals cs)) (of-profile : Is (ShrSlice (named 1) (κs .1 .0) usize) profile (slice-val profile ∷ []))
+  module _ (p : Is (ShrSlice (named 0) (κs .0) f64) s (slice-val s ∷ [])) (fits : n < 2 ^ 64) (is : Is (Array usize maxPlayers) (field-list cs) (counts-vals cs)) (of-profile : Is (ShrSlice (named 1) (κs .1 .0) usize) profile (slice-val profile ∷ []))
       (C : Calls 𝓤 H) (Λ : Loops 𝓤 H) (fm : FmC 𝓤 H (W .laws) C) (known : Triple 𝓤 (C #method) (Method 𝓤 H A mem run)) where
     walk : ent 𝓤 (onEntry 𝓤 H A f.signature κs qs a vals) (WpFn 𝓤 H C Λ code.function (slice-val s ∷ vint w64 n ∷ counts-val cs ∷ slice-val profile ∷ []) Post)
     walk =
@@ -131,7 +134,7 @@ module _ {M : Type 1} (𝓤 : URA M) (H : Heap 𝓤) (A : Atoms 𝓤) (W : Given
 matrix-is-equilibrium-meets : {M : Type 1} (𝓤 : URA M) (H : Heap 𝓤) (A : Atoms 𝓤) → Given 𝓤 H A → (mem : Memory → SProp 𝓤) (run : Routine → Fun 𝓤) (𝓣 : Tables 𝓤 H) → Triple 𝓤 (𝓣 .C #method) (Method 𝓤 H A mem run)
     → Meets 𝓤 H A f.signature (WpFn 𝓤 H (𝓣 .C) (𝓣 .Λ) code.function) (f.spec 𝓤 H A mem run)
 matrix-is-equilibrium-meets 𝓤 H A W mem run 𝓣 known =
-    walk-meets 𝓤 H A f.ended stayed W (goes-dropped 𝓤 H A W 2 (shrSliceOf (0 ∷ []) tt (plain (λ _. f64))) yes (λ κs x f. refl), (goes-dropped 𝓤 H A W 2 (plain (λ _. usize)) yes (λ κs x f. refl), (goes-dropped 𝓤 H A W 2 (arrayOf (plain (λ _. usize)) 8) yes (λ κs x f. refl), (goes-dropped 𝓤 H A W 2 (shrSliceOf (1 ∷ []) tt (plain (λ _. usize))) yes (λ κs x f. refl), tt)))) (f.clauses 𝓤 H A mem run)
+    walk-meets 𝓤 H A f.ended stayed W (goes-dropped 𝓤 H A W 2 (shrSliceOf (0 ∷ []) tt (plain (λ _. f64))) yes (λ κs x f. refl), (goes-dropped 𝓤 H A W 2 (plain (λ _. usize)) yes (λ κs x f. refl), (goes-dropped 𝓤 H A W 2 (arrayOf (plain (λ _. usize)) maxPlayers) yes (λ κs x f. refl), (goes-dropped 𝓤 H A W 2 (shrSliceOf (1 ∷ []) tt (plain (λ _. usize))) yes (λ κs x f. refl), tt)))) (f.clauses 𝓤 H A mem run)
     (WpFn 𝓤 H (𝓣 .C) (𝓣 .Λ) code.function) (WpFn-mono 𝓤 H (W .laws) 𝓣 code.function) (matrix-is-equilibrium-walks 𝓤 H A W mem run (𝓣 .C) (𝓣 .Λ) (fmOf 𝓤 H (W .laws) 𝓣) known)
 
 pub matrix-is-equilibrium-spec : {M : Type 1} → stated.statement M

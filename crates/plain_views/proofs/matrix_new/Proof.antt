@@ -1,4 +1,5 @@
--- `plain_views::matrix_new` meets its contract: a walk of its MIR, by hand. `PayoffMatrix::new` is called on what came in, and gives the answer beside the view; the plain fields are copied out and put together. At exit nothing is had of the parameters, so what the slices own goes to `new`.
+-- `plain_views::matrix_new` meets its contract: a walk of its MIR, by hand. `PayoffMatrix::new` is called on what came in, and gives the answer
+-- beside the view; the plain fields are copied out and put together. At exit nothing is had of the parameters, so what the slices own goes to `new`.
 -- Assumes nothing.
 use mathlib.Core.Path.{_≡_, refl, ap}
 use Prim.Native.Nat.{ℕ}
@@ -40,6 +41,7 @@ use denote.Triple.Table.{entered, cited}
 use denote.Triple.Walked.{says, Stays, stay-dropped, walkOf, goes-dropped, Walks, ends-at, walked, walk-meets}
 use denote.Exit.{yes}
 use denote.Triple.Clauses.{ensured, lasts}
+use Rattle.table.specs.Limits.{maxPlayers}
 use Rattle.refusal.specs.Told.{toldUnit, unless}
 use Rattle.refusal.proofs.UnitResult as U
 use Rattle.refusal.proofs.UnitResult.Laws as U′
@@ -147,7 +149,7 @@ module _ {M : Type 1} (𝓤 : URA M) (H : Heap 𝓤) (A : Atoms 𝓤) (W : Given
     is-players : Is usize (t .matrix .players) (vint w64 (t .matrix .players) ∷ [])
     is-players = LL.owed (P.the-type αᵉ) (P′.the-laws αᵉ) (t .matrix) _ is-matrix .1 .0
 
-    is-counts : Is (Array usize 8) (field-list (t .matrix .counts)) (counts-vals (t .matrix .counts))
+    is-counts : Is (Array usize maxPlayers) (field-list (t .matrix .counts)) (counts-vals (t .matrix .counts))
     is-counts = LL.owed (P.the-type αᵉ) (P′.the-laws αᵉ) (t .matrix) _ is-matrix .1 .1 .0
 
     is-space : Is S.the-row (space t) (LL.vals S.the-type S′.the-laws (space t))

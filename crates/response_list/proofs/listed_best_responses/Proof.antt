@@ -1,4 +1,5 @@
--- `response_list::listed_best_responses` meets its contract: a walk of its MIR, by hand. A local array is lent as a slice for a lifetime that is made for
+-- `response_list::listed_best_responses` meets its contract: a walk of its MIR, by hand. A local array is lent as a slice for a lifetime that is made
+-- for
 -- the call of `best_responses`; the lifetime ends, and the array comes back at the slice's last list and goes into the result.
 -- Assumes nothing.
 use mathlib.Core.Path.{_≡_, refl, sym, _∙_, subst}
@@ -47,6 +48,7 @@ use denote.Triple.Table.{entered, cited}
 use denote.Triple.Walked.{says, Stays, stay-dropped, walkOf, goes-dropped, Walks, ends-at, walked, walk-meets}
 use denote.Exit.{yes}
 use denote.Triple.Clauses.{ensured, lasts, Lasts}
+use Rattle.table.specs.Limits.{maxStrategies}
 use Rattle.refusal.specs.Told.{toldUsize}
 use Rattle.refusal.specs.declared.UsizeResult.{UsizeResult}
 use Rattle.refusal.proofs.UsizeResult as U
@@ -97,7 +99,7 @@ module _ {M : Type 1} (𝓤 : URA M) (H : Heap 𝓤) (A : Atoms 𝓤) (W : Given
   abbrev Said : ℕ → UsizeResult → List BestResponse → Type 0
   Said room n zs = (toldUsize n ≡ recordsAnswer (now cs) (now ps) p (now os) room) × (zs ≡ over (recordsWritten (now cs) (now ps) p (now os) room) ys)
 
-  exits : (n : UsizeResult) (zs : List BestResponse) (w : Val) → Is U.the-row n (w ∷ []) → Is Records zs (records-vals zs) → Said 64 n zs
+  exits : (n : UsizeResult) (zs : List BestResponse) (w : Val) → Is U.the-row n (w ∷ []) → Is Records zs (records-vals zs) → Said maxStrategies n zs
       → ent 𝓤 (⋆ 𝓤 H A (‵ (flft κc qc) ∷ ‵ (flft κp qp) ∷ ‵ (flft κo qo) ∷ [])) (Post (list-val w zs))
   exits n zs w is-n is-zs said =
       qed W (‵ (flft κc qc) ∷ ‵ (flft κp qp) ∷ ‵ (flft κo qo) ∷ []) ∵
@@ -107,7 +109,7 @@ module _ {M : Type 1} (𝓤 : URA M) (H : Heap 𝓤) (A : Atoms 𝓤) (W : Given
       owned ! L.the-row (Is L.the-row) (LL.makes L.the-type L′.the-plain 𝓤 H A) (record { answer = n; records = zs }) _ (list-is n zs w is-n is-zs) $ move ! (1 ∷ 0 ∷ []) $ done !
 
   module _ (is-cs : Is (ShrSlice (named 0) κc usize) cs (slice-val cs ∷ [])) (is-ps : Is (ShrSlice (named 1) κp f64) ps (slice-val ps ∷ [])) (p-fits : p < 2 ^ 64) (is-os : Is (ShrSlice (named 2) κo usize) os (slice-val os ∷ [])) (is : Is Records ys (records-vals ys)) where
-    full : length ys ≡ 64
+    full : length ys ≡ maxStrategies
     full = is .1 .0 .1
 
     -- the slice that is lent: of the array in the local l, under the name γ
@@ -134,7 +136,8 @@ module _ {M : Type 1} (𝓤 : URA M) (H : Heap 𝓤) (A : Atoms 𝓤) (W : Given
         split ! $ split ! $ move ! (1 ∷ []) $ split ! $ move ! (1 ∷ []) $ split ! $
         -- [the opponents' token; true; the payoffs' and the counts' tokens; what the parameters own; ν's token; what the slice owns]
         move ! (4 ∷ []) $ fsplit ! $ move ! (1 ∷ []) $ fsplit ! $ move ! (1 ∷ []) $ fsplit ! $ move ! (1 ∷ []) $ fsplit ! $
-        -- [what opponents owns; what records owns; what player, payoffs and counts own; the opponents' token; true; the payoffs' and the counts' tokens; ν's token; what the slice owns]
+        -- [what opponents owns; what records owns; what player, payoffs and counts own; the opponents' token; true; the payoffs' and the counts'
+        -- tokens; ν's token; what the slice owns]
         keep ! (10 ∷ 0 ∷ 2 ∷ 3 ∷ 4 ∷ 9 ∷ 5 ∷ 7 ∷ 8 ∷ []) $
         nothing ! $ move ! (1 ∷ 0 ∷ []) $ fjoin ! $ move ! (1 ∷ 0 ∷ []) $ fjoin ! $ move ! (1 ∷ 0 ∷ []) $ fjoin ! $ move ! (1 ∷ 0 ∷ []) $ fjoin ! $ move ! (1 ∷ 0 ∷ []) $ fjoin ! $
         -- [what `best_responses` is passed; the four tokens]
@@ -170,7 +173,8 @@ module _ {M : Type 1} (𝓤 : URA M) (H : Heap 𝓤) (A : Atoms 𝓤) (W : Given
           use3 W (later (‵ (Arr (mem T.the-row) (length ys) .lies (zs .1 .1 .1 .1 .0) l₆ 0))) (slice-back 𝓤 H A W T.the-row (ν ∷ []) γ (zs .1 .1 .1 .1 .0) (length ys) l₆ 0) $ await ! tt $ fsplit ! $ drop ! $
           use1 W (‵ (fat fullShare records-mir l₆ 0 (records-val (zs .1 .1 .1 .1 .0))) ⊛ ‵ (Records .own (zs .1 .1 .1 .1 .0) (records-vals (zs .1 .1 .1 .1 .0)))) (lies-out 𝓤 H A W l₆ (zs .1 .1 .1 .1 .0) (same ∙ full)) $ split ! $ move ! (1 ∷ []) $
           peeks ! Records (Is Records) (shows 𝓤 H A Records) (zs .1 .1 .1 .1 .0) (records-vals (zs .1 .1 .1 .1 .0)) (λ is-zs.
-          -- [what the array owns; _6; true; the opponents', the payoffs' and the counts' tokens; the result; true; _10; …; _9; …; _8; …; _7; …; that _6 dies; _5; …; _4; …; _3; …; _2; …; _1; …; room for _0; …]
+          -- [what the array owns; _6; true; the opponents', the payoffs' and the counts' tokens; the result; true; _10; …; _9; …; _8; …; _7; …; that
+          -- _6 dies; _5; …; _4; …; _3; …; _2; …; _1; …; room for _0; …]
           assigns ! (of-opd ! (load ! (from ! (stop !)) (look ! 1 refl))) (from ! (stop !)) (init ! 8 refl (records-lawful 𝓤 H A W .typed (zs .1 .1 .1 .1 .0) _ is-zs .0)) $
           assigns ! (agg ! (and-then ! (load ! (from ! (stop !)) (look ! 14 refl)) (and-then ! (load ! (from ! (stop !)) (look ! 8 refl)) (no-more !)))) (from ! (stop !)) (init ! 27 refl (LL.lawful L.the-type L′.the-laws 𝓤 H A W .typed (record { answer = n; records = zs .1 .1 .1 .1 .0 }) _ (list-is n (zs .1 .1 .1 .1 .0) w is-n is-zs) .0)) $
           returns ! (look ! 27 refl) $ forget ! 1 refl $ forget ! 8 refl $ forget ! 10 refl $ forget ! 12 refl $ forget ! 14 refl $ forget ! 17 refl $ forget ! 19 refl $ forget ! 21 refl $ forget ! 23 refl $ forget ! 25 refl $ forget ! 27 refl $
@@ -195,7 +199,7 @@ listed-meets 𝓤 H A W mem′ run 𝓣 known =
         goes-dropped 𝓤 H A W 3 (shrSliceOf (1 ∷ []) tt (plain (λ _. f64))) yes (λ κs x f. refl),
         (
           goes-dropped 𝓤 H A W 3 (plain (λ _. usize)) yes (λ κs x f. refl),
-          (goes-dropped 𝓤 H A W 3 (shrSliceOf (2 ∷ []) tt (plain (λ _. usize))) yes (λ κs x f. refl), (goes-dropped 𝓤 H A W 3 (arrayOf (plain (λ _. T.the-row)) 64) yes (λ κs x f. refl), tt)),
+          (goes-dropped 𝓤 H A W 3 (shrSliceOf (2 ∷ []) tt (plain (λ _. usize))) yes (λ κs x f. refl), (goes-dropped 𝓤 H A W 3 (arrayOf (plain (λ _. T.the-row)) maxStrategies) yes (λ κs x f. refl), tt)),
         ),
       ),
     ) (f.clauses 𝓤 H A mem′ run)

@@ -1,4 +1,5 @@
--- `response_list::write_list` meets its contract: a walk of its MIR, by hand. A loop fills the front of the slice. The borrow is opened once, before the
+-- `response_list::write_list` meets its contract: a walk of its MIR, by hand. A loop fills the front of the slice. The borrow is opened once, before
+-- the
 -- loop, and closed once, after it. In between the row of elements is the function's own: at i it is `over (take i xs) ys`.
 --     ends         every local is freed
 --     turns        a turn of the loop: it reads a record of the array in the struct's local, stores it and goes on, or leaves the loop and returns
@@ -49,6 +50,7 @@ use denote.Triple.Table.{entered}
 use denote.Triple.Walked.{says, needs, Stays, stay-dropped, stay-slice, walkOf, goes-dropped, goes-slice, Walks, ends-at, walked, walk-meets}
 use denote.Exit.{yes}
 use denote.Signature.{plain}
+use Rattle.table.specs.Limits.{maxStrategies}
 use Rattle.refusal.proofs.UsizeResult as U
 use Rattle.refusal.proofs.UsizeResult.Laws as U′
 use Rattle.table.specs.Outputs.{over}
@@ -117,8 +119,8 @@ module _ {M : Type 1} (𝓤 : URA M) (H : Heap 𝓤) (A : Atoms 𝓤) (W : Given
   abbrev Post : Val → SProp 𝓤
   Post = walkOf 𝓤 H A f.ended stayed (f.clauses 𝓤 H A mem run) .post (((κ, tt), (q, tt), tt, a, vals), tt)
 
-  module _ (room : Room T.the-row (length ys)) (g : Is R.the-row d (mach ∷ [])) (g-told : Is U.the-row (d .answer) (told ∷ [])) (n-fits : n < 2 ^ 64) (full : length xs ≡ 64)
-      (held : Is (Array (T.the-field .row) 64) (map (T.the-field .into) xs) (arrayVal (map (T′.the-field-laws .val) (map (T.the-field .into) xs)) ∷ [])) (few : n ≤ 64) (long : n ≤ length ys) where
+  module _ (room : Room T.the-row (length ys)) (g : Is R.the-row d (mach ∷ [])) (g-told : Is U.the-row (d .answer) (told ∷ [])) (n-fits : n < 2 ^ 64) (full : length xs ≡ maxStrategies)
+      (held : Is (Array (T.the-field .row) maxStrategies) (map (T.the-field .into) xs) (arrayVal (map (T′.the-field-laws .val) (map (T.the-field .into) xs)) ∷ [])) (few : n ≤ maxStrategies) (long : n ≤ length ys) where
     exits : (zs : List BestResponse) → length zs ≡ length ys → zs ≡ upto n
         → ent 𝓤 (⋆ 𝓤 H A (‵ (fobs γ (codedHoleys T.the-row .code (heres T.the-row zs))) ∷ ‵ (fbor κ (Held T.the-row (length zs) b o γ)) ∷ ‵ (flft κ q) ∷ [])) (Post told)
     exits zs same said =
@@ -134,7 +136,7 @@ module _ {M : Type 1} (𝓤 : URA M) (H : Heap 𝓤) (A : Atoms 𝓤) (W : Given
     abbrev us : List Val
     us = map (T′.the-field-laws .val) (map (T.the-field .into) xs)
 
-    us-long : length us ≡ 64
+    us-long : length us ≡ maxStrategies
     us-long = length-map (map (T.the-field .into) xs) (T′.the-field-laws .val) ∙ length-map xs (T.the-field .into) ∙ full
 
     abbrev r : ℕ → BestResponse
@@ -143,7 +145,7 @@ module _ {M : Type 1} (𝓤 : URA M) (H : Heap 𝓤) (A : Atoms 𝓤) (W : Given
     abbrev v : ℕ → Val
     v k = getD us k mach
 
-    elem-is : (k : ℕ) → k < 64 → Is T.the-row (r k) (v k ∷ [])
+    elem-is : (k : ℕ) → k < maxStrategies → Is T.the-row (r k) (v k ∷ [])
     elem-is k l = subst (λ (y : T.the-field .row .Denot). Is (T.the-field .row) y (v k ∷ [])) (List·getD-map (T.the-field .into) xs k none)
         (element-is T.the-field T′.the-field-laws (map (T.the-field .into) xs) (held .0) (held .1 .1) k (T.the-field .into none) mach
         (subst (λ (m : ℕ). k < m) (sym (length-map xs (T.the-field .into) ∙ full)) l))
@@ -167,7 +169,7 @@ module _ {M : Type 1} (𝓤 : URA M) (H : Heap 𝓤) (A : Atoms 𝓤) (W : Given
       lt : i < n
       lt = ltb→lt i n less
 
-      in-found : i < 64
+      in-found : i < maxStrategies
       in-found = omega (arith, lt, few)
 
       within : i < length (upto i)
@@ -237,7 +239,8 @@ module _ {M : Type 1} (𝓤 : URA M) (H : Heap 𝓤) (A : Atoms 𝓤) (W : Given
       turns : (i : Upto) → Sq W (At i) (runs C Λ En text.turn-1 (anyQ (Turned i)))
       unfolding afterTurn
       turns i =
-          -- [the row; the open borrow; obs; auth; _12; …; _11; …; _10; …; _9; …; _8; …; _7; …; _6; …; _5; …; _4; …; _3; …; _2; …; _1; …; room for _0; …]
+          -- [the row; the open borrow; obs; auth; _12; …; _11; …; _10; …; _9; …; _8; …; _7; …; _6; …; _5; …; _4; …; _3; …; _2; …; _1; …; room for _0;
+          -- …]
           assigns ! (bin ! (load ! (from ! (stop !)) (look ! 18 refl)) (load ! (from ! (stop !)) (look ! 20 refl)) tt) (from ! (stop !)) (init ! 16 refl (tt, tt)) $
           turns-on ! (load ! (from ! (stop !)) (look ! 16 refl))
           (λ less.
@@ -290,7 +293,7 @@ module _ {M : Type 1} (𝓤 : URA M) (H : Heap 𝓤) (A : Atoms 𝓤) (W : Given
   write-walks : (𝓣 : Tables 𝓤 H) → Walks 𝓤 H A f.ended stayed (WpFn 𝓤 H (𝓣 .C) (𝓣 .Λ) code.function) (f.clauses 𝓤 H A mem run)
   write-walks 𝓣 = walked 𝓤 H A f.ended stayed (f.clauses 𝓤 H A mem run) (WpFn 𝓤 H (𝓣 .C) (𝓣 .Λ) code.function)
       (λ κs. (LL.vals R.the-type R′.the-laws, (slice-vals, tt))) (λ κs. (LL.tells R.the-type R′.the-laws, (mut-slice-tells (named 0) (κs .0) T.the-row, tt)))
-      (λ κs qs bounds a g are. needs 𝓤 ((a .0 .number ≤ 64) × (a .0 .number ≤ length (a .1 .0 .now))) _ (λ fit.
+      (λ κs qs bounds a g are. needs 𝓤 ((a .0 .number ≤ maxStrategies) × (a .0 .number ≤ length (a .1 .0 .now))) _ (λ fit.
       (let fields = LL.owed R.the-type R′.the-laws (a .0) _ (are .0) in
       enters 𝓤 H A W mem run (κs .0) (qs .0) (a .1 .0 .ptr .0) (a .1 .0 .ptr .1) (a .1 .0 .name) (a .1 .0 .now) (a .0) (are .1 .0 .0 .1) (are .0) (fields .0) (fields .1 .0 .1) (sym (length-map (a .0 .records) _) ∙ fields .1 .1 .0 .1 .0 .1) (fields .1 .1 .0) (fit .0) (fit .1) 𝓣)))
 

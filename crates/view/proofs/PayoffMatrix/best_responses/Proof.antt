@@ -1,5 +1,7 @@
--- `view::PayoffMatrix::best_responses` meets its contract: a walk of its MIR, by hand. The view is taken apart, and `responses_of` is called on its fields, on the other parameters and on the list's length; then `write_list` is called on what that hands back and on the list, which is passed on for good (`gave-slice`).
--- All that the proof knows of the two is that they meet their contracts. That the records fit, and which list is left, is said in `Delivered`.
+-- `view::PayoffMatrix::best_responses` meets its contract: a walk of its MIR, by hand. The view is taken apart, and `responses_of` is called on its
+-- fields, on the other parameters and on the list's length; then `write_list` is called on what that hands back and on the list, which is passed on
+-- for good (`gave-slice`).
+-- That the records fit, and which list is left, is said in `Delivered` of `response_list`.
 -- Assumes nothing.
 use mathlib.Core.Path.{_≡_, refl, sym, _∙_, ap}
 use Prim.Native.Nat.{ℕ, _≤_}
@@ -188,7 +190,8 @@ module _ {M : Type 1} (𝓤 : URA M) (H : Heap 𝓤) (A : Atoms 𝓤) (W : Given
         alloc1 ! (λ l₀. alloc1 ! (λ l₁. alloc1 ! (λ l₂. alloc1 ! (λ l₃. alloc1 ! (λ l₄. alloc1 ! (λ l₅. alloc1 ! (λ l₆. alloc1 ! (λ l₇. alloc1 ! (λ l₈. alloc1 ! (λ l₉. alloc1 ! (λ l₁₀. alloc1 ! (λ l₁₁. alloc0 ! $ params1 ! $
         pass1 ! (init ! 20 refl (view-typed κ d is 𝓤 H A W)) $ pass1 ! (init ! 18 refl (uint-lawful 𝓤 H A W w64 .typed p _ is-p .0)) $
         pass1 ! (init ! 16 refl (shr-slice-lawful 𝓤 H A W (named 1) κ₁ usize .typed o _ is-o .0)) $ pass1 ! (init ! 14 refl (mut-slice-lawful 𝓤 H A W (named 2) κ₂ E.the-row .typed x _ is-x .0)) $ pass0 ! $
-        -- [_11; …; _10; …; _9; …; _8; …; _7; …; _6; …; _5; …; _4; …; _3; …; _2; …; _1; …; room for _0; …; `responses_of`'s pre; what the list owns; κ₂'s token]
+        -- [_11; …; _10; …; _9; …; _8; …; _7; …; _6; …; _5; …; _4; …; _3; …; _2; …; _1; …; room for _0; …; `responses_of`'s pre; what the list owns;
+        -- κ₂'s token]
         assigns ! (of-opd ! (load ! (from ! (fld ! refl (stop !))) (look-in ! 20 (sub ! 0 refl (whole !))))) (from ! (stop !)) (init ! 10 refl (tt, view-typed κ d is 𝓤 H A W .1 .0)) $
         assigns ! (of-opd ! (load ! (from ! (fld ! refl (stop !))) (look-in ! 20 (sub ! 1 refl (whole !))))) (from ! (stop !)) (init ! 8 refl (tt, view-typed κ d is 𝓤 H A W .1 .1 .0)) $
         assigns ! (of-opd ! (load ! (from ! (fld ! refl (stop !))) (look-in ! 20 (sub ! 2 refl (whole !))))) (from ! (stop !)) (init ! 6 refl (counts-laws .lawful 𝓤 H A W .typed (field-list (d .counts)) _ (view-counts κ d is) .0)) $

@@ -1,4 +1,4 @@
--- `view::PayoffMatrix::fresh` meets its contract: a walk of its MIR, by hand. The view is taken apart, and `fresh_of` is called on its fields. All that the proof knows of `fresh_of` is that it meets its contract.
+-- `view::PayoffMatrix::fresh` meets its contract: a walk of its MIR, by hand. The view is taken apart, and `fresh_of` is called on its fields.
 -- At exit nothing is had of the view (`stay-dropped`), so what its slice owns goes to the callee, beside the lifetime's token, which comes back.
 -- Assumes nothing.
 use mathlib.Core.Path.{_≡_, refl}

@@ -1,5 +1,7 @@
--- `view::PayoffMatrix::is_equilibrium` meets its contract: a walk of its MIR, by hand. The view is taken apart, and `is_equilibrium_of` is called on its fields. All that the proof knows of `is_equilibrium_of` is that it meets its contract.
--- At exit nothing is had of the view and of the profile (`stay-dropped`), so what they own goes to the callee, beside the lifetimes' tokens, which come back.
+-- `view::PayoffMatrix::is_equilibrium` meets its contract: a walk of its MIR, by hand. The view is taken apart, and `is_equilibrium_of` is called on
+-- its fields.
+-- At exit nothing is had of the view and of the profile (`stay-dropped`), so what they own goes to the callee, beside the lifetimes' tokens, which
+-- come back.
 -- Assumes nothing.
 use mathlib.Core.Path.{_≡_, refl}
 use mathlib.Core.List.{List, [], _∷_}

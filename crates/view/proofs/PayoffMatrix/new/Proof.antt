@@ -1,5 +1,6 @@
--- `view::PayoffMatrix::new` meets its contract: a walk of its MIR, by hand. `table::payoff_matrix` is called on the two slices; a view is made of the payoffs and of the space that it hands back, and a result of its answer and the view.
--- All that the proof knows of `payoff_matrix` is that it meets its contract. What the payoffs own is had twice, once for the call and once for the result; at exit nothing is had of the parameters (`stay-dropped`).
+-- `view::PayoffMatrix::new` meets its contract: a walk of its MIR, by hand. `table::payoff_matrix` is called on the two slices; a view is made of the
+-- payoffs and of the space that it hands back, and a result of its answer and the view.
+-- What the payoffs own is had twice, once for the call and once for the result; at exit nothing is had of the parameters (`stay-dropped`).
 -- Assumes nothing.
 use mathlib.Core.Path.{_≡_, refl, ap}
 use Prim.Native.Nat.{ℕ}
@@ -43,6 +44,7 @@ use denote.Triple.Table.{entered, cited}
 use denote.Triple.Walked.{says, Stays, stay-dropped, walkOf, goes-dropped, Walks, ends-at, walked, walk-meets}
 use denote.Triple.Clauses.{ensured, lasts}
 use denote.Exit.{yes}
+use Rattle.table.specs.Limits.{maxPlayers}
 use Rattle.refusal.specs.Told.{toldUnit, unless}
 use Rattle.refusal.proofs.UnitResult as U
 use Rattle.refusal.proofs.UnitResult.Laws as U′
@@ -89,7 +91,7 @@ module _ (r : SpaceResult) (vs : List Val) (is : Is R.the-row r vs) where
   players-is : Is usize (r .space .players) (vint w64 (r .space .players) ∷ [])
   players-is = LL.owed S.the-type S′.the-laws (r .space) _ space-is .0
 
-  counts-is : Is (Array usize 8) (field-list (r .space .counts)) (counts-vals (r .space .counts))
+  counts-is : Is (Array usize maxPlayers) (field-list (r .space .counts)) (counts-vals (r .space .counts))
   counts-is = LL.owed S.the-type S′.the-laws (r .space) _ space-is .1 .0
 
 module _ {M : Type 1} (𝓤 : URA M) (H : Heap 𝓤) (A : Atoms 𝓤) (W : Given 𝓤 H A) (mem : Memory → SProp 𝓤) (run : Routine → Fun 𝓤) (κ κ₁ : Lft) (q q₁ : Share) (c : RefT (List ℕ)) (s : RefT (List Float)) where
@@ -171,7 +173,7 @@ module _ {M : Type 1} (𝓤 : URA M) (H : Heap 𝓤) (A : Atoms 𝓤) (W : Given
           suffices ! _ (ends-at 𝓤 H A f.ended stayed (f.clauses 𝓤 H A mem run) W ((κs, qs, tt, a, vals), tt) (mach r) (made r) (tt, (tt, tt)) (tt, (tt, tt))) $
           says ! (e .0, refl, ap (λ (k : StrategySpace). k .players) (e .1), ap (λ (k : StrategySpace). k .counts) (e .1)) $ frame ! $
           -- [what the payoffs own]: with the facts of the other fields it is what the view owns
-          nothing ! $ owned ! (Array usize 8) (Is (Array usize 8)) (counts-makes 𝓤 H A W) (field-list (r .space .counts)) _ (counts-is r vs is) $ fjoin ! $
+          nothing ! $ owned ! (Array usize maxPlayers) (Is (Array usize maxPlayers)) (counts-makes 𝓤 H A W) (field-list (r .space .counts)) _ (counts-is r vs is) $ fjoin ! $
           owned ! usize (Is usize) (uint-makes 𝓤 H A W w64) (r .space .players) _ (players-is r vs is) $ fjoin ! $ move ! (1 ∷ 0 ∷ []) $ fjoin ! $
           use1 W (‵ (T.the-row α .own (view r) (LL.vals (T.the-type α) (T′.the-laws α) (view r)))) (own-shut 𝓤 H A W (T.the-type α) (T′.the-laws α) (s, (r .space .players, (r .space .counts, tt)))) $
           -- and that, with the fact of the answer, is what the result owns

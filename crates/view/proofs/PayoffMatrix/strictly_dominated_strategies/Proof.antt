@@ -1,5 +1,7 @@
--- `view::PayoffMatrix::strictly_dominated_strategies` meets its contract: a walk of its MIR, by hand. The view is taken apart, and `dominated_of` is called on its fields. All that the proof knows of `dominated_of` is that it meets its contract.
--- At exit nothing is had of the view (`stay-dropped`), so what its slice owns goes to the callee. The two lent slices are passed on for good (`gave-slice`), at their own lifetimes, shares and names. The lifetimes' tokens come back.
+-- `view::PayoffMatrix::strictly_dominated_strategies` meets its contract: a walk of its MIR, by hand. The view is taken apart, and `dominated_of` is
+-- called on its fields.
+-- At exit nothing is had of the view (`stay-dropped`), so what its slice owns goes to the callee. The two lent slices are passed on for good
+-- (`gave-slice`), at their own lifetimes, shares and names. The lifetimes' tokens come back.
 -- Assumes nothing.
 use mathlib.Core.Path.{_≡_, refl}
 use mathlib.Core.List.{List, [], _∷_}
@@ -141,7 +143,8 @@ module _ {M : Type 1} (𝓤 : URA M) (H : Heap 𝓤) (A : Atoms 𝓤) (W : Given
         heard ! (Answers r) (λ answers. split ! $ heard ! (LastX (ws .1 .1 .1 .1 .0)) (λ last-x. heard ! (LastY (ws .1 .1 .1 .1 .1 .0)) (λ last-y.
         -- [what is said of last values, nothing of the first four; the tokens and the result; _11; …]
         fsplit ! $ drop ! $ fsplit ! $ drop ! $ fsplit ! $ drop ! $ fsplit ! $ drop ! $ fsplit ! $ fsplit ! $ move ! (1 ∷ []) $ feqL ! (λ same-x. move ! (1 ∷ []) $ fsplit ! $ fsplit ! $ move ! (1 ∷ []) $ feqL ! (λ same-y. move ! (3 ∷ []) $ split ! $ move ! (1 ∷ []) $
-        -- [the result; the tokens; the second last list; true; the first last list; _11; …; _10; …; _9; …; _8; …; _7; …; _6; …; _5; …; _4; …; _3; …; _2; …; _1; …; room for _0; …]
+        -- [the result; the tokens; the second last list; true; the first last list; _11; …; _10; …; _9; …; _8; …; _7; …; _6; …; _5; …; _4; …; _3; …;
+        -- _2; …; _1; …; room for _0; …]
         peeks ! R.the-row (Is R.the-row) (shows 𝓤 H A R.the-row) r (u ∷ []) (λ is-r.
         land ! (from ! (stop !)) (init ! 27 refl (EL.lawful R.the-type R′.the-laws 𝓤 H A W tt .typed r _ is-r .0)) $
         returns ! (look ! 27 refl) $ forget ! 5 refl $ forget ! 7 refl $ forget ! 9 refl $ forget ! 11 refl $ forget ! 13 refl $ forget ! 15 refl $ forget ! 17 refl $ forget ! 19 refl $ forget ! 21 refl $ forget ! 23 refl $ forget ! 25 refl $ forget ! 27 refl $

@@ -1,5 +1,6 @@
--- `view::PayoffMatrix::strike` meets its contract: a walk of its MIR, by hand. The view is taken apart, and `strike_of` is called on its fields. All that the proof knows of `strike_of` is that it meets its contract.
--- At exit nothing is had of the parameters (`stay-dropped`), so what the view's slice owns goes to the callee, beside the lifetime's token, which comes back.
+-- `view::PayoffMatrix::strike` meets its contract: a walk of its MIR, by hand. The view is taken apart, and `strike_of` is called on its fields.
+-- At exit nothing is had of the parameters (`stay-dropped`), so what the view's slice owns goes to the callee, beside the lifetime's token, which
+-- comes back.
 -- Assumes nothing.
 use mathlib.Core.Path.{_≡_, refl}
 use mathlib.Core.List.{[], _∷_}
