@@ -4,6 +4,6 @@ use Prim.Native.Nat.{ℕ}
 use Rattle.view_fields.specs.Counts.{firstCounts}
 use Rattle.view.specs.declared.PayoffMatrix.{PayoffMatrix}
 
--- its counts
+-- the counts of the table that a view holds
 abbrev pub countsOf : PayoffMatrix → List ℕ
 countsOf t = firstCounts (t .players) (t .counts)

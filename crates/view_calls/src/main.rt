@@ -406,7 +406,7 @@ fn equal_strategies() {
 
 // Outputs that are exactly full, and one short.
 fn rooms(payoffs: &[f64]) {
-    let equal = [1.0; 14];
+    let equal = [1.0; ROOM + 2];
     let mut counts = [1; MAX_PLAYERS];
     counts[1] = ROOM / 2;
     equilibria(b"exactly full", first(&equal, ROOM), 2, counts);
