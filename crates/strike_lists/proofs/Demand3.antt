@@ -1,6 +1,6 @@
 -- Demand 3 at the calls: the record of specs/Demand3, for every table with none of refusals 1 to 7 and every list of calls, from the chain's
 -- agreement with the machine (Chain) and the theorem of `game` about the machine. Assumes nothing.
-use mathlib.Core.Path.{_≡_, sym, ap, _∙_, subst}
+use mathlib.Core.Path.{_≡_, refl, sym, ap, ap₂, _∙_, subst}
 use mathlib.Core.List.{List, map}
 use mathlib.Core.Option.{none}
 use Prim.Native.Nat.{ℕ, _*_}
@@ -12,11 +12,11 @@ use Rattle.game.specs.Solution.{equilibria}
 use Rattle.game.specs.Strikes.{run, runFrom}
 use Rattle.game.proofs.Demand3 as Theory
 use Rattle.refusal.specs.Refusal.{Refusal}
-use Rattle.refusal.specs.Told.{values}
+use Rattle.refusal.specs.Told.{Told, values, status}
 use Rattle.table.specs.Table.{profilePart, tableGame}
 use Rattle.table.specs.Meaning.{Table}
 use Rattle.table.specs.Checks.{tableRefusal}
-use Rattle.table.specs.Outputs.{roomRefusal, joined}
+use Rattle.table.specs.Outputs.{roomRefusal, joined, over}
 use Rattle.table.proofs.Checks.{table-law}
 use Rattle.table.proofs.Game.{game-playable}
 use Rattle.table.proofs.Outputs.{room-fits}
@@ -25,12 +25,13 @@ use Rattle.pure_nash.proofs.Listing.{same-answer, same-choices, same-utilities}
 use Rattle.survivors.specs.declared.Survivors.{Survivors}
 use Rattle.survivors.specs.Survivors.{marksOf, freshOf}
 use Rattle.survivor_calls.specs.Answers.{survivorsRefusal}
-use Rattle.strike_lists.specs.Answers.{chain}
+use Rattle.strike_lists.specs.Answers.{chain, acceptedOf, dominatorOf, answersSaid}
 use Rattle.strike_lists.specs.Demand3.{SameListing, HoldsAll, Demand3}
 use Rattle.survivors.proofs.Marks.{fresh-marks, count-fresh}
 use Rattle.survivors.proofs.Foreign.{own-not, foreign-law}
 use Rattle.survivor_calls.proofs.Cases.{not-foreign}
 use Rattle.strike_lists.proofs.Chain.{Good, fresh-good, Ran, ran}
+use Rattle.strike_lists.proofs.Written.{answers-said}
 
 module _ (counts : List ℕ) (payoffs : List Float) (t : Table counts payoffs) where
   abbrev g : Game
@@ -95,7 +96,8 @@ module _ (counts : List ℕ) (payoffs : List Float) (t : Table counts payoffs) w
       subst (λ (m : Marks). Ran counts payoffs (freshOf counts) cs (runFrom g m cs .marks) (runFrom g m cs .answers) (chain counts payoffs cs))
       (fresh-marks counts payoffs (t .shape)) (ran counts payoffs t (freshOf counts) (fresh-good counts payoffs t) cs)
 
-  pub demand-3 : (cs : List Strategy) → Demand3 counts payoffs cs
+  pub demand-3 : (cs : List Strategy)
+      → let x = chain counts payoffs cs in Demand3 counts payoffs cs (acceptedOf (x .answers)) (x .answers) (x .survivors)
   unfolding tableGame
   demand-3 cs =
       let r = from-fresh cs in
@@ -108,8 +110,26 @@ module _ (counts : List ℕ) (payoffs : List Float) (t : Table counts payoffs) w
         own = foreign-law counts (left cs) .1 (r .stays .own);
         same-listing = same-listing (left cs) (r .stays) is;
         same-held = same-held (left cs) (r .stays) is;
+        number = refl;
         counted = r .counted ∙ count-fresh counts (t .shape);
         same-marks = λ ds a b.
             let s = from-fresh ds in
             r .marks ∙ d .same-marks ds (subst (Undominated g) (r .marks) a) (subst (Undominated g) (s .marks) b) ∙ sym (s .marks);
       }
+
+  -- ---- what was handed back and written
+
+  -- a result that tells the number of the chain's acceptances, its survivors, and outputs that its answers were written into
+  pub demand-3-told : (cs : List Strategy) (r : Told ℕ) (v : Survivors) (old old′ told by : List ℕ)
+      → let x = chain counts payoffs cs in r ≡ values (acceptedOf (x .answers))
+      → v ≡ x .survivors
+      → told ≡ over (map status (x .answers)) old
+      → by ≡ over (map dominatorOf (x .answers)) old′
+      → (n : ℕ) → r ≡ values n → Demand3 counts payoffs cs n (answersSaid (length cs) told by) v
+  demand-3-told cs r v old old′ told by tells left first second n is =
+      let x = chain counts payoffs cs in
+      let d = demand-3 cs in
+      let said : answersSaid (length cs) told by ≡ x .answers = ap₂ (answersSaid (length cs)) first second ∙ answers-said (d .calls) _ _ in
+      let h = sym is ∙ tells in
+      let many : n ≡ acceptedOf (x .answers) = cc in
+      rw (said, left, many) d

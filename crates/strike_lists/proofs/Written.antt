@@ -12,6 +12,7 @@ use lib.Seq.{take-suc, length-take-le}
 use lib.Ieee.{Float}
 use Rattle.game.specs.Finite.{filter}
 use Rattle.game.specs.Game.{Strategy, strategy}
+use Rattle.game.specs.Demand3.{no-player, not-left, no-dominator}
 use Rattle.game.proofs.Finite.{filter-append, filter-at-most}
 use Rattle.refusal.specs.Refusal.{numberOf}
 use Rattle.refusal.specs.Told.{Told, values, refused, status, tells}
@@ -21,7 +22,8 @@ use Rattle.table.proofs.Outputs.{over-length, over-more}
 use Rattle.survivors.specs.declared.Survivors.{Survivors}
 use Rattle.survivors.specs.Survivors.{freshOf, noSurvivors}
 use Rattle.survivor_calls.specs.Answers.{strikeAnswer, strikeLeaves}
-use Rattle.strike_lists.specs.Answers.{callsOf, Chain, chainFrom, chain, acceptedOf, dominatorOf, strikesRefusal, strikesAnswer, strikesLeave, strikesWritten}
+use Rattle.strike_lists.specs.Answers.{callsOf, Chain, chainFrom, chain, acceptedOf, dominatorOf, answersSaid, strikesRefusal, strikesAnswer, strikesLeave, strikesWritten}
+use Rattle.strike_lists.specs.Meaning.{Struck, done, struck, kept}
 use Rattle.strike_lists.proofs.Chain.{chain-last}
 
 -- ---- the calls
@@ -116,6 +118,17 @@ module _ (counts : List ℕ) (payoffs : List Float) where
               last : (t : Bool) → length (cond t (b ∷ []) []) ≡ cond t 1 0
               last true = refl
               last false = refl
+
+-- ---- the answers as two outputs say them
+
+-- a list's answers are said by what was written of them, since no refusal's number is 0
+pub answers-said : {counts : List ℕ} {payoffs : List Float} {v w : Survivors} {cs : List Strategy} {ans : List (Told ℕ)} → Struck counts payoffs v cs ans w
+    → (rest rest′ : List ℕ) → answersSaid (length cs) (map status ans ++ rest) (map dominatorOf ans ++ rest′) ≡ ans
+answers-said done rest rest′ = refl
+answers-said (struck {t = t} _ _ _ more) rest rest′ = ap (λ (l : List (Told ℕ)). values t ∷ l) (answers-said more rest rest′)
+answers-said (kept _ (no-player _) _ more) rest rest′ = ap (λ (l : List (Told ℕ)). refused 8 ∷ l) (answers-said more rest rest′)
+answers-said (kept _ (not-left _ _) _ more) rest rest′ = ap (λ (l : List (Told ℕ)). refused 14 ∷ l) (answers-said more rest rest′)
+answers-said (kept _ (no-dominator _ _) _ more) rest rest′ = ap (λ (l : List (Told ℕ)). refused 15 ∷ l) (answers-said more rest rest′)
 
 -- ---- what `strikes` answers, by its refusal
 

@@ -1,6 +1,6 @@
 -- A chain of strike calls, and what `strikes` answers, hands back and writes, which runs one. Assumes nothing.
 use mathlib.Core.List.{List, [], _∷_}
-use Prim.Native.Nat.{ℕ}
+use Prim.Native.Nat.{ℕ, zero, suc}
 use lib.ListN.{length}
 use lib.Ieee.{Float}
 use Rattle.game.specs.Game.{Strategy, strategy}
@@ -46,6 +46,18 @@ acceptedOf ans = length (filter tells ans)
 abbrev pub dominatorOf : Told ℕ → ℕ
 dominatorOf (values t) = t
 dominatorOf (toldRefused e) = 0
+
+-- what a written number says, beside the dominator that stands with it: 0 an acceptance, any other number that refusal
+abbrev pub answerSaid : ℕ → ℕ → Told ℕ
+answerSaid zero t = values t
+answerSaid (suc e) t = toldRefused (suc e)
+
+-- the answers to the first k calls, as two outputs say them
+abbrev pub answersSaid : ℕ → List ℕ → List ℕ → List (Told ℕ)
+answersSaid zero told by = []
+answersSaid (suc k) [] by = []
+answersSaid (suc k) (e ∷ told) [] = []
+answersSaid (suc k) (e ∷ told) (t ∷ by) = answerSaid e t ∷ answersSaid k told by
 
 -- `strikes` with outputs of lengths a and b
 module _ (counts : List ℕ) (payoffs : List Float) (cs : List Strategy) (a b : ℕ) where

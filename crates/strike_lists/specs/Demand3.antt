@@ -1,7 +1,7 @@
 -- Demand 3 at the calls (document 01, "Strikes"): one claim about a table with none of refusals 1 to 7 and a list of strike calls from
--- its fresh survivors, empty or not, accepted and refused mixed, naming any numbers. It speaks of the chain of calls by the definitions
--- that the contracts of `fresh`, `strike`, `equilibria` and `surviving_equilibria` name, and the contract of `strikes`, which runs the
--- chain, has it. The table is one value through all the calls: nobody writes it meanwhile. Assumes nothing.
+-- its fresh survivors, empty or not, accepted and refused mixed, naming any numbers. It is a claim about what the list did: how many calls
+-- were accepted, the answer to each, and the survivors that the last one handed back. The contract of `strikes`, which runs such a list, has
+-- it of its result and of its outputs. The table is one value through all the calls: nobody writes it meanwhile. Assumes nothing.
 use mathlib.Core.Path.{_≡_}
 use mathlib.Core.List.{List, map}
 use mathlib.Core.Option.{none}
@@ -12,6 +12,7 @@ use Rattle.game.specs.Finite.{sum}
 use Rattle.game.specs.Game.{Strategy}
 use Rattle.game.specs.Strikes.{run}
 use Rattle.game.specs.Meaning.{Undominated}
+use Rattle.refusal.specs.Told.{Told}
 use Rattle.table.specs.Table.{tableGame}
 use Rattle.pure_nash.specs.Answers.{tableEquilibria, equilibriaAnswer, equilibriaChoices, equilibriaUtilities}
 use Rattle.survivors.specs.declared.Survivors.{Survivors}
@@ -32,27 +33,28 @@ module _ (counts : List ℕ) (payoffs : List Float) where
   abbrev pub HoldsAll : ℕ → Type 0
   HoldsAll n = length (tableEquilibria counts payoffs) * length counts ≤ n
 
-  -- the claim about the list of calls cs
-  pub record Demand3 (cs : List Strategy) : Type 0 where
+  -- The claim about the list of calls cs: its answers are ans, n of them tell that a call was accepted, and v is handed back at last.
+  pub record Demand3 (cs : List Strategy) (n : ℕ) (ans : List (Told ℕ)) (v : Survivors) : Type 0 where
     -- Exactly the calls that the plain machine accepts, at the game that the table is, answer as accepted, with the machine's dominator. The
     -- others answer with the machine's refusal.
-    pub answers : chain counts payoffs cs .answers ≡ map toldAnswer (run (tableGame counts payoffs) cs .answers)
+    pub answers : ans ≡ map toldAnswer (run (tableGame counts payoffs) cs .answers)
     -- Each accepted call took just the mark it names, each refused one none, and 8, 14 and 15 are the only refusals.
-    pub calls : Struck counts payoffs (freshOf counts) cs (chain counts payoffs cs .answers) (chain counts payoffs cs .survivors)
+    pub calls : Struck counts payoffs (freshOf counts) cs ans v
     -- After the list exactly the strategies that the machine has left are marked.
-    pub marks : marksOf (chain counts payoffs cs .survivors) ≡ run (tableGame counts payoffs) cs .marks
+    pub marks : marksOf v ≡ run (tableGame counts payoffs) cs .marks
     -- The survivors are not foreign.
-    pub own : foreignRefusal counts (chain counts payoffs cs .survivors) ≡ none
+    pub own : foreignRefusal counts v ≡ none
     -- The equilibria listed over the survivors are those of the whole table, for outputs of equal lengths.
-    pub same-listing : (a b : ℕ) → SameListing (chain counts payoffs cs .survivors) a b a b
+    pub same-listing : (a b : ℕ) → SameListing v a b a b
     -- They are so for any outputs that hold them all.
-    pub same-held : (a b c d : ℕ) → HoldsAll a → HoldsAll b → HoldsAll c → HoldsAll d
-        → SameListing (chain counts payoffs cs .survivors) a b c d
-    -- Accepted answers + marks = the strategies at the start, the sum of the counts.
-    pub counted : acceptedOf (chain counts payoffs cs .answers) + markCount (chain counts payoffs cs .survivors) ≡ sum counts
+    pub same-held : (a b c d : ℕ) → HoldsAll a → HoldsAll b → HoldsAll c → HoldsAll d → SameListing v a b c d
+    -- Accepted strikes are counted by their answers.
+    pub number : n ≡ acceptedOf ans
+    -- Accepted + marks = the strategies at the start, the sum of the counts.
+    pub counted : n + markCount v ≡ sum counts
     -- Any other list leaves the same marks, where each of the two leaves no survivor that is strictly dominated by another survivor of the
     -- same player against the others' survivors.
     pub same-marks : (ds : List Strategy)
-        → Undominated (tableGame counts payoffs) (marksOf (chain counts payoffs cs .survivors))
+        → Undominated (tableGame counts payoffs) (marksOf v)
         → Undominated (tableGame counts payoffs) (marksOf (chain counts payoffs ds .survivors))
-        → marksOf (chain counts payoffs cs .survivors) ≡ marksOf (chain counts payoffs ds .survivors)
+        → marksOf v ≡ marksOf (chain counts payoffs ds .survivors)

@@ -10,15 +10,13 @@ use table::StrategySpace;
 ghost use mathlib.Core.Path.{_≡_};
 ghost use mathlib.Core.Bool.{cond};
 ghost use mathlib.Core.List.{map};
-ghost use mathlib.Core.Option.{none};
-ghost use Prim.Native.Nat.{min, _<_, _≤_};
+ghost use Prim.Native.Nat.{ℕ, min, _<_, _≤_};
 ghost use lib.ListN.{length, set};
 ghost use Rattle.refusal.specs.Told.{values, refused, toldUsize, status, tells};
 ghost use Rattle.table.specs.Meaning.{Table};
-ghost use Rattle.table.specs.Checks.{tableRefusal};
 ghost use Rattle.table.specs.Outputs.{over};
 ghost use Rattle.survivors.specs.Survivors.{freshOf, noSurvivors};
-ghost use Rattle.strike_lists.specs.Answers.{callsOf, chain, acceptedOf, dominatorOf, strikesAnswer, strikesLeave, strikesWritten};
+ghost use Rattle.strike_lists.specs.Answers.{callsOf, chain, acceptedOf, dominatorOf, answersSaid, strikesAnswer, strikesLeave, strikesWritten};
 ghost use Rattle.strike_lists.specs.Demand3.{Demand3};
 
 // What a list of strikes that 13 refuses hands back: 13 beside P 0, counts 0 and no mark.
@@ -119,8 +117,9 @@ fn strike_each(
 // strategies[i] are named by the i-th, and of unequal lists the shorter length counts. How many were accepted, beside the survivors; into
 // `answers` 0 or the refusal's number for each strike, and into `dominators` its dominator, 0 where refused. Elements past those written
 // keep their contents. Or the first of 1 to 7, and 13 where either output is shorter than the list, beside P 0, counts 0 and no mark, and
-// nothing is written. Its last `ensures` is demand 3, for every table with none of refusals 1 to 7 and every list. The table is one value through
-// all the strikes: nobody writes it meanwhile.
+// nothing is written. Its last `ensures` is demand 3, for every table with none of refusals 1 to 7 and every list: a claim about the number that
+// is told, the survivors that are handed back and the answers that were written, where a 0 with its dominator is an acceptance and any other
+// number that refusal. The table is one value through all the strikes: nobody writes it meanwhile.
 pub fn strikes(
     counts: &[usize],
     payoffs: &[f64],
@@ -133,7 +132,9 @@ pub fn strikes(
     ensures { λ r. ⌜ r .survivors ≡ strikesLeave (now (counts .entry)) (now (payoffs .entry)) (callsOf (now (players .entry)) (now (strategies .entry))) (length (now (answers .entry))) (length (now (dominators .entry))) ⌝ }
     ensures { λ r. ⌜ now (answers .exit) ≡ over (map status (strikesWritten (now (counts .entry)) (now (payoffs .entry)) (callsOf (now (players .entry)) (now (strategies .entry))) (length (now (answers .entry))) (length (now (dominators .entry))))) (now (answers .entry)) ⌝ }
     ensures { λ r. ⌜ now (dominators .exit) ≡ over (map dominatorOf (strikesWritten (now (counts .entry)) (now (payoffs .entry)) (callsOf (now (players .entry)) (now (strategies .entry))) (length (now (answers .entry))) (length (now (dominators .entry))))) (now (dominators .entry)) ⌝ }
-    ensures { λ r. ⌜ (tableRefusal (now (counts .entry)) (now (payoffs .entry)) ≡ none → Demand3 (now (counts .entry)) (now (payoffs .entry)) (callsOf (now (players .entry)) (now (strategies .entry)))) ⌝ }
+    ensures { λ r. ⌜ (let cs = callsOf (now (players .entry)) (now (strategies .entry)) in
+        (n : ℕ) → toldUsize (r .answer) ≡ values n
+        → Demand3 (now (counts .entry)) (now (payoffs .entry)) cs n (answersSaid (length cs) (now (answers .exit)) (now (dominators .exit))) (r .survivors)) ⌝ }
 {
     let made = survivors::fresh(counts, payoffs);
     let answer = made.answer;

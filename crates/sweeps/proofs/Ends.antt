@@ -1,6 +1,6 @@
 -- The sweeps end, in one way alone, and what they did: the record `Done` of specs/Meaning, for every table with none of refusals 1 to 7.
 -- Assumes nothing.
-use mathlib.Core.Path.{_≡_, refl, sym, ap, _∙_, subst}
+use mathlib.Core.Path.{_≡_, refl, sym, ap, _∙_, subst, subst⁻¹}
 use mathlib.Core.List.{List, [], _∷_, _++_, cons≢nil}
 use mathlib.Core.Logic.{_≢_}
 use Prim.Native.Nat.{ℕ, zero, suc, _+_, _≤_, _<_}
@@ -18,13 +18,14 @@ use Rattle.table.specs.Meaning.{Table}
 use Rattle.survivors.specs.declared.Survivors.{Survivors}
 use Rattle.survivors.specs.Survivors.{marksOf, markCount, freshOf}
 use Rattle.survivor_calls.specs.Answers.{toldAnswer}
-use Rattle.strike_lists.specs.Answers.{chainFrom}
+use Rattle.strike_lists.specs.Answers.{chainFrom, chain}
+use Rattle.strike_lists.specs.Demand3.{Demand3}
 use Rattle.survivors.proofs.Marks.{count-fresh}
 use Rattle.strike_lists.proofs.Chain.{Good, fresh-good, told, ran}
 use Rattle.strike_lists.proofs.Demand3.{demand-3}
 use Rattle.sweeps.specs.Sweeps.{Strike, Swept, struckBy, sweepThen, sweepCalls, sweep, struckIn, sweepsFrom, sweeps}
 use Rattle.sweeps.specs.Meaning.{Sweeps, ended, again, Done}
-use Rattle.sweeps.proofs.Strikes.{left-append, struck-append, unstruck, strikes-named, struck-counted}
+use Rattle.sweeps.proofs.Strikes.{left-append, struck-append, unstruck, strikes-named, strikes-many, struck-counted}
 
 none-of : {A : Type 0} (xs : List A) → length xs ≤ 0 → xs ≡ []
 none-of [] h = refl
@@ -115,7 +116,7 @@ module _ (counts : List ℕ) (payoffs : List Float) where
         unstruck counts payoffs v (sweepCalls counts payoffs) h .1 c (strategies-law g .members c .1 (a .survives .0)) u
         (told counts payoffs t v k c ∙ ap toldAnswer (answer-unique g (marksOf v) c (accepted u) a)))
 
-    pub sweeps-done : Done counts payoffs (sweeps counts payoffs)
+    pub sweeps-done : let x = sweeps counts payoffs in Done counts payoffs (x .strikes) (x .survivors)
     unfolding sweeps
     sweeps-done =
         let fresh = freshOf counts in
@@ -128,7 +129,14 @@ module _ (counts : List ℕ) (payoffs : List Float) where
         let free : Undominated g (marksOf (x .survivors)) = unstruck-undominated (x .survivors) (rw left (r .stays)) (sweeps-end s) in
         record {
           sweeps = s;
-          calls = (cs, strikes, left);
+          calls = (
+            cs,
+            chain counts payoffs cs .answers,
+            strikes,
+            subst⁻¹ (λ (v : Survivors). Demand3 counts payoffs cs (length (x .strikes)) (chain counts payoffs cs .answers) v) left
+                (subst⁻¹ (λ (n : ℕ). Demand3 counts payoffs cs n (chain counts payoffs cs .answers) (chain counts payoffs cs .survivors))
+                (ap length strikes ∙ strikes-many counts payoffs (r .calls)) (demand-3 counts payoffs t cs)),
+          );
           named = λ k m. strikes-named counts payoffs (r .calls) k (rw strikes at m);
           few = omega (arith, ap length strikes, struck-counted counts payoffs t fresh good cs, many);
           undominated = free;

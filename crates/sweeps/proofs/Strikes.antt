@@ -61,7 +61,7 @@ module _ (counts : List ℕ) (payoffs : List Float) where
       (in-cons m)
   strikes-named (kept _ _ _ rest) k m = strikes-named rest k m
 
-  strikes-many : {v w : Survivors} {cs : List Strategy} {ans : List (Told ℕ)} → Struck counts payoffs v cs ans w → length (strikesOf cs ans) ≡ acceptedOf ans
+  pub strikes-many : {v w : Survivors} {cs : List Strategy} {ans : List (Told ℕ)} → Struck counts payoffs v cs ans w → length (strikesOf cs ans) ≡ acceptedOf ans
   strikes-many done = refl
   strikes-many (struck _ _ _ rest) = ap suc (strikes-many rest)
   strikes-many (kept _ _ _ rest) = strikes-many rest

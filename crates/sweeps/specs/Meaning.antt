@@ -8,11 +8,14 @@ use lib.Ieee.{Float}
 use Rattle.game.specs.Finite.{_∈_, sum}
 use Rattle.game.specs.Game.{Strategy, strategy}
 use Rattle.game.specs.Meaning.{Has, Undominated}
+use Rattle.refusal.specs.Told.{Told}
 use Rattle.table.specs.Table.{tableGame}
 use Rattle.survivors.specs.declared.Survivors.{Survivors}
 use Rattle.survivors.specs.Survivors.{marksOf, freshOf}
 use Rattle.strike_lists.specs.Answers.{chain}
-use Rattle.sweeps.specs.Sweeps.{Strike, Swept, strikesOf, sweep, struckIn}
+use Rattle.strike_lists.specs.Demand3.{Demand3}
+use Rattle.outputs.specs.Put.{Puts}
+use Rattle.sweeps.specs.Sweeps.{Strike, strikesOf, sweep, struckIn, strikesNumbers}
 
 module _ (counts : List ℕ) (payoffs : List Float) where
   -- sweep after sweep from v, until a sweep strikes nothing, these were the strikes, and w is what is left: there is no other end
@@ -26,18 +29,26 @@ module _ (counts : List ℕ) (payoffs : List Float) where
     pub struck : Has (tableGame counts payoffs) (k .struck)
     pub dominator : Has (tableGame counts payoffs) (strategy (k .struck .player) (k .dominator))
 
-  -- what the sweeps of a table with none of refusals 1 to 7 did
-  pub record Done (x : Swept) : Type 0 where
+  -- what sweeps of a table with none of refusals 1 to 7 did: ks were the strikes, and v is what is left
+  pub record Done (ks : List Strike) (v : Survivors) : Type 0 where
     -- they ended
-    pub sweeps : Sweeps (freshOf counts) (x .strikes) (x .survivors)
-    -- They are one list of strike calls from fresh survivors, to which demand 3 applies: the strikes are its accepted calls.
-    pub calls : (cs : List Strategy) × (x .strikes ≡ strikesOf cs (chain counts payoffs cs .answers)) × (x .survivors ≡ chain counts payoffs cs .survivors)
+    pub sweeps : Sweeps (freshOf counts) ks v
+    -- They are one list of strike calls from fresh survivors. The strikes are its accepted calls, and demand 3 holds of it.
+    pub calls : (cs : List Strategy) × (ans : List (Told ℕ)) × (ks ≡ strikesOf cs ans) × Demand3 counts payoffs cs (length ks) ans v
     -- each strike names strategies of the table
-    pub named : (k : Strike) → k ∈ x .strikes → Named k
+    pub named : (k : Strike) → k ∈ ks → Named k
     -- there are no more strikes than strategies
-    pub few : length (x .strikes) ≤ sum counts
+    pub few : length ks ≤ sum counts
     -- nobody is dominated any more
-    pub undominated : Undominated (tableGame counts payoffs) (marksOf (x .survivors))
+    pub undominated : Undominated (tableGame counts payoffs) (marksOf v)
     -- and the survivors are those of every list of strikes that leaves nobody dominated
     pub same-survivors : (ds : List Strategy) → Undominated (tableGame counts payoffs) (marksOf (chain counts payoffs ds .survivors))
-        → marksOf (x .survivors) ≡ marksOf (chain counts payoffs ds .survivors)
+        → marksOf v ≡ marksOf (chain counts payoffs ds .survivors)
+
+  -- The same of what was handed back and written: the survivors v, and an output that held `old` and holds `new`, where `end` is the place after
+  -- the strikes.
+  pub record DoneInto (v : Survivors) (old : List ℕ) (end : ℕ) (new : List ℕ) : Type 0 where
+    pub strikes : List Strike
+    -- the output holds the strikes, three numbers each, as far as there is room
+    pub put : Puts old 0 (strikesNumbers strikes) end new
+    pub done : Done strikes v

@@ -11,7 +11,7 @@ ghost use Rattle.game.specs.Game.{strategy as named};
 ghost use Rattle.table.specs.Meaning.{Table};
 ghost use Rattle.outputs.specs.Put.{past, Puts};
 ghost use Rattle.sweeps.specs.Sweeps.{sweepCalls, sweeps, strikesNumbers};
-ghost use Rattle.sweeps.specs.Meaning.{Done};
+ghost use Rattle.sweeps.specs.Meaning.{DoneInto};
 ghost use Rattle.sweeps.specs.Progress.{Ready, Runs};
 
 // The place after the strikes that were written, beside the survivors.
@@ -131,7 +131,7 @@ pub fn sweeps(counts: &[usize], payoffs: &[f64], struck: &mut [usize]) -> Sweeps
     ensures { λ r. ⌜ r .end ≡ past (now (struck .entry)) 0 (strikesNumbers (sweeps (now (counts .entry)) (now (payoffs .entry)) .strikes)) ⌝ }
     ensures { λ r. ⌜ r .survivors ≡ sweeps (now (counts .entry)) (now (payoffs .entry)) .survivors ⌝ }
     ensures { λ _. ⌜ now (struck .exit) ≡ sets (now (struck .entry)) 0 (strikesNumbers (sweeps (now (counts .entry)) (now (payoffs .entry)) .strikes)) ⌝ }
-    ensures { λ _. ⌜ Done (now (counts .entry)) (now (payoffs .entry)) (sweeps (now (counts .entry)) (now (payoffs .entry))) ⌝ }
+    ensures { λ r. ⌜ DoneInto (now (counts .entry)) (now (payoffs .entry)) (r .survivors) (now (struck .entry)) (r .end) (now (struck .exit)) ⌝ }
 {
     // the table has P payoffs for each profile
     let profiles = payoffs.len() / counts.len();

@@ -1,5 +1,5 @@
 -- `strike_lists::strikes` meets its contract: what the check told, whether the outputs hold the answers, and the chain that was run; and demand 3,
--- which holds of every table and list. Assumes nothing.
+-- of what it tells, hands back and has written. Assumes nothing.
 use mathlib.Core.Path.{_≡_, sym, ap, ap₂, _∙_}
 use mathlib.Core.List.{List, map}
 use mathlib.Core.Option.{none, some}
@@ -10,19 +10,19 @@ use lib.ListN.{length}
 use lib.Ieee.{Float}
 use Rattle.game.specs.Game.{Strategy}
 use Rattle.refusal.specs.Refusal.{Refusal, numberOf, _then_}
-use Rattle.refusal.specs.Told.{Told, refused, toldUnit, status}
+use Rattle.refusal.specs.Told.{Told, values, refused, toldUnit, status}
 use Rattle.refusal.specs.declared.NormalFormError.{NormalFormError}
 use Rattle.refusal.specs.declared.NormalFormError.the-variants.{OutputTooShort}
-use Rattle.refusal.proofs.Told.{told-values, told-refused}
+use Rattle.refusal.proofs.Told.{apart, told-values, told-refused}
 use Rattle.table.specs.Checks.{tableRefusal}
 use Rattle.table.specs.Outputs.{roomRefusal, over}
 use Rattle.table.proofs.Checks.{table-law}
 use Rattle.table.proofs.Outputs.{first-short, second-short, room-fits}
 use Rattle.survivors.specs.declared.Survivors.{Survivors}
 use Rattle.survivors.specs.Survivors.{freshOf, unlessRefused, noSurvivors}
-use Rattle.strike_lists.specs.Answers.{callsOf, dominatorOf, strikesRefusal, strikesAnswer, strikesLeave, strikesWritten}
+use Rattle.strike_lists.specs.Answers.{callsOf, dominatorOf, answersSaid, strikesRefusal, strikesAnswer, strikesLeave, strikesWritten}
 use Rattle.strike_lists.specs.Demand3.{Demand3}
-use Rattle.strike_lists.proofs.Demand3.{demand-3}
+use Rattle.strike_lists.proofs.Demand3.{demand-3-told}
 use Rattle.strike_lists.proofs.Written.{calls-length, strikes-refused, strikes-run}
 use Rattle.strike_lists.proofs.strikes.Statement.{statement}
 use Rattle.strike_lists.proofs.strikes.Tie as tie
@@ -53,7 +53,7 @@ module _ (s : tie.Start) where
       × ((v ≡ strikesLeave cs ps calls (length told) (length by))
       × ((out ≡ over (map status (strikesWritten cs ps calls (length told) (length by))) told)
       × ((out′ ≡ over (map dominatorOf (strikesWritten cs ps calls (length told) (length by))) by)
-      × (tableRefusal cs ps ≡ none → Demand3 cs ps calls))))
+      × ((n : ℕ) → r ≡ values n → Demand3 cs ps calls n (answersSaid (length calls) out out′) v))))
 
   due-refused : (e : NormalFormError) → refusal ≡ some e → (r : Told ℕ) → r ≡ refused (numberOf e) → (v : Survivors) → v ≡ noSurvivors → Due r v told by
   due-refused e h r x v y =
@@ -63,7 +63,7 @@ module _ (s : tie.Start) where
           y ∙ b,
           (
             ap (λ (xs : List (Told ℕ)). over (map status xs) told) c,
-            (ap (λ (xs : List (Told ℕ)). over (map dominatorOf xs) by) c, λ t. demand-3 cs ps (table-law cs ps .0 t) calls),
+            (ap (λ (xs : List (Told ℕ)). over (map dominatorOf xs) by) c, λ n h. absurd (apart n (numberOf e) (sym h ∙ x))),
           ),
         ),
       )
@@ -164,7 +164,10 @@ returns-4 c =
         e .1 .0 ∙ run .1,
         (
           e .1 .1 .0 ∙ ap (λ (xs : List (Told ℕ)). over (map status xs) (told s)) (run .2),
-          (e .1 .1 .1 ∙ ap (λ (xs : List (Told ℕ)). over (map dominatorOf xs) (by s)) (run .2), λ t. demand-3 (cs s) (ps s) (table-law (cs s) (ps s) .0 t) (calls s)),
+          (
+            e .1 .1 .1 ∙ ap (λ (xs : List (Told ℕ)). over (map dominatorOf xs) (by s)) (run .2),
+            demand-3-told (cs s) (ps s) (table-law (cs s) (ps s) .0 (none-applies l)) (calls s) _ _ (told s) (by s) _ _ (e .0) (e .1 .0) (e .1 .1 .0) (e .1 .1 .1),
+          ),
         ),
       ),
     )

@@ -16,7 +16,8 @@ use Rattle.survivors.specs.declared.Survivors.{Survivors}
 use Rattle.survivors.specs.Survivors.{markCount, freshOf, unlessRefused, noSurvivors}
 use Rattle.sweeps.proofs.Ends.{sweeps-done}
 use Rattle.outputs.proofs.Put.{puts-length, puts-within}
-use Rattle.sweeps.specs.Sweeps.{strikesNumbers}
+use Rattle.sweeps.specs.Sweeps.{sweeps, strikesNumbers}
+use Rattle.sweeps.specs.Meaning.{Done}
 use Rattle.sweeps.proofs.Runs.{After, after-none, after-more, after-less, after-all}
 use Rattle.sweeps.proofs.sweeps.Statement.{statement}
 use Rattle.sweeps.proofs.sweeps.Tie as tie
@@ -96,7 +97,8 @@ returns c =
     let l = c .before in
     let k = start l in
     let (end, left, output) = after-all (cs k) (ps k) (table k) (l .loop .inv .1) (c .loop-test .left) in
-    (end, (left, (output, sweeps-done (cs k) (ps k) (table k))))
+    let done = subst⁻¹ (Done (cs k) (ps k) (sweeps (cs k) (ps k) .strikes)) left (sweeps-done (cs k) (ps k) (table k)) in
+    (end, (left, (output, record { strikes = sweeps (cs k) (ps k) .strikes; put = (end, output); done = done })))
 
 pub sweeps-spec : {M : Type 1} → statement M
 sweeps-spec =
