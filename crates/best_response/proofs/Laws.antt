@@ -1,23 +1,27 @@
 -- What the listed best responses are, where refusals 1 to 10 let a call pass: the strategies whose payoff no strategy's exceeds, ascending
--- (`responses-law`). There is one (`responses-some`), and any two have payoffs of equal keys (`responses-equal`). Assumes nothing.
-use mathlib.Core.Path.{_≡_}
+-- (`responses-law`). There is one (`responses-some`), and any two have payoffs of equal keys (`responses-equal`). A refused call
+-- writes nothing (`responses-kept`). Assumes nothing.
+use mathlib.Core.Path.{_≡_, refl}
 use mathlib.Core.List.{List, [], _∷_, List·Memᴰ·not-nil as not-in-nil}
 use Prim.Native.Nat.{ℕ, _≤_, _<_}
 use native.Mathlib.Omega.{arith}
 use lib.Dec.{T}
-use lib.ListN.{length, getD, set}
+use lib.ListN.{length, getD, set, take}
 use lib.Ieee.{Float, nan, binary64, fits}
 use Rattle.game.specs.Finite.{_∈_, Lists}
 use Rattle.game.specs.Game.{whole}
 use Rattle.game.proofs.Sorted.{lists-iff}
 use Rattle.game.proofs.Game.{whole-law}
 use Rattle.game.proofs.Solution.{bestResponses-law, best-whole}
+use Rattle.refusal.specs.Told.{refused}
 use Rattle.utility.specs.Order.{key, rank}
 use Rattle.utility.proofs.Rank.{rank-eq}
 use Rattle.table.specs.Table.{cell, payoffAt, tableGame}
+use Rattle.table.specs.Outputs.{written, over}
 use Rattle.table.proofs.Game.{game-playable}
 use Rattle.table.proofs.Offsets.{cell-below}
-use Rattle.best_response.specs.Answers.{against, responses}
+use Rattle.table.proofs.Outputs.{refused-kept}
+use Rattle.best_response.specs.Answers.{against, responses, responseUtilities, responsesAnswer, responsesWritten}
 use Rattle.best_response.proofs.Opponents.{set-against, Accepted}
 use Rattle.best_response.proofs.Responses.{accepted-profile}
 
@@ -62,3 +66,15 @@ module _ {counts : List ℕ} {payoffs : List Float} {p : ℕ} {opponents : List 
       let (l, most) = responses-law .members s .0 h in
       let (l′, most′) = responses-law .members t .0 k in
       rank-eq (paid s) (paid t) (held _ (within s l)) (held _ (within t l′)) .1 (omega (arith, most t l′, most′ s l))
+
+-- a call that refuses, by 13 too, leaves both outputs as they were
+pub responses-kept : (counts : List ℕ) (payoffs : List Float) (p : ℕ) (opponents : List ℕ) (a b e : ℕ)
+    → responsesAnswer counts payoffs p opponents a b ≡ refused e → (old : List ℕ) (old′ : List Float)
+    → let w = responsesWritten counts payoffs p opponents a b in
+    (over w old ≡ old) × (over (responseUtilities counts payoffs p opponents w) old′ ≡ old′)
+unfolding responseUtilities
+responses-kept counts payoffs p opponents a b e is old old′ =
+    let first = λ t. take (written t) (responses counts payoffs p opponents) in (
+      refused-kept first (λ _. refl) _ e is old,
+      refused-kept (λ t. responseUtilities counts payoffs p opponents (first t)) (λ _. refl) _ e is old′,
+    )

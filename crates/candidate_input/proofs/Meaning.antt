@@ -25,7 +25,7 @@ both a b f g = (λ h. let (p, q) = and-T a b .0 h in (f .0 p, g .0 q), λ h. and
 pub none-T : (a : Bool) → T (not a) ↔ (a ≡ false)
 none-T a = (λ h. test-false a (no-T a .0 h), λ e. no-T a .1 (λ t. subst T e t))
 
-all-law : (f : Float → Bool) (xs : List Float) → T (all f xs) ↔ ((i : ℕ) → i < length xs → T (f (getD xs i nan)))
+pub all-law : (f : Float → Bool) (xs : List Float) → T (all f xs) ↔ ((i : ℕ) → i < length xs → T (f (getD xs i nan)))
 all-law f xs = (λ h i l. all-at f nan xs i (test-true (all f xs) h) l, λ h. subst T (sym (at-all f nan xs h)) tt)
 
 pub none-below-law : (bound : Float) (xs : List Float) → T (all (λ x. not (lt x bound)) xs) ↔ NoneBelow bound xs

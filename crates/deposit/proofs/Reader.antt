@@ -14,9 +14,11 @@ use Rattle.refusal.specs.Told.{values, refused}
 use Rattle.refusal.specs.declared.NormalFormError.{NormalFormError}
 use Rattle.refusal.specs.declared.NormalFormError.the-variants.{TooManyCells, OutputTooShort}
 use Rattle.refusal.proofs.Refusal.{when-none, then-none, then-assoc}
+use Rattle.refusal.proofs.Told.{told-of-refused}
 use Rattle.table.specs.Limits.{maxCells}
 use Rattle.table.specs.Table.{cells}
-use Rattle.table.specs.Outputs.{over}
+use Rattle.table.specs.Outputs.{writtenOf, over}
+use Rattle.table.proofs.Outputs.{refused-kept}
 use Rattle.words.specs.Words.{wordsOf}
 use Rattle.words.specs.Faults.{lengthFault, closingFault}
 use Rattle.deposit.specs.Deposit.{playersIn, countsIn, payoffsIn, openingFault, countFault, cellFault, headFault, restFault, wordsFault, readRefusal, tableOf}
@@ -92,3 +94,11 @@ module _ (bytes counts : List ℕ) (payoffs : List Float) where
       × (over (payoffsIn (wordsOf bytes)) payoffs ≡ readPayoffs bytes counts payoffs))
   unfolding readAnswer readCounts readPayoffs tableOf
   read-accepted h = rw h (ap (λ (n : ℕ). values n) (sym (counts-length (wordsOf bytes))), (refl, refl))
+
+  -- a reader that refuses, by 13 too, leaves both outputs as they were
+  pub read-kept : (e : ℕ) → readAnswer bytes counts payoffs ≡ refused e
+      → (readCounts bytes counts payoffs ≡ counts) × (readPayoffs bytes counts payoffs ≡ payoffs)
+  unfolding readAnswer readCounts readPayoffs
+  read-kept e is =
+      let told = told-of-refused (λ (t : List ℕ × List Float). length (t .0)) (tableOf bytes (length counts) (length payoffs)) e is in
+      (refused-kept (writtenOf (λ t. t .0)) (λ _. refl) _ e told counts, refused-kept (writtenOf (λ t. t .1)) (λ _. refl) _ e told payoffs)

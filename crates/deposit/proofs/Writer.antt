@@ -11,8 +11,10 @@ use Rattle.game.proofs.Finite.{length-flatMap, sum-equal}
 use Rattle.refusal.specs.Refusal.{numberOf}
 use Rattle.refusal.specs.Told.{values, refused}
 use Rattle.refusal.specs.declared.NormalFormError.{NormalFormError}
+use Rattle.refusal.proofs.Told.{told-of-refused}
 use Rattle.table.specs.Checks.{tableRefusal}
-use Rattle.table.specs.Outputs.{over}
+use Rattle.table.specs.Outputs.{writtenOf, over}
+use Rattle.table.proofs.Outputs.{refused-kept}
 use Rattle.words.specs.Words.{word, closed}
 use Rattle.words.proofs.Words.{bytes-length, closed-length}
 use Rattle.deposit.specs.Deposit.{payoffWords, deposit, fileOf}
@@ -58,3 +60,8 @@ module _ (counts : List ℕ) (payoffs : List Float) (bytes : List ℕ) where
         → (values (length (deposit counts payoffs)) ≡ writeAnswer counts payoffs bytes) × (over (deposit counts payoffs) bytes ≡ writeBytes counts payoffs bytes)
     unfolding writeAnswer writeBytes fileOf
     write-accepted h = rw (fits, le-ltb (length bytes) (length (deposit counts payoffs)) h) (refl, refl)
+
+  -- a writer that refuses, by 13 too, leaves the output as it was
+  pub write-kept : (e : ℕ) → writeAnswer counts payoffs bytes ≡ refused e → writeBytes counts payoffs bytes ≡ bytes
+  unfolding writeAnswer writeBytes
+  write-kept e is = refused-kept (writtenOf (λ file. file)) (λ _. refl) _ e (told-of-refused length (fileOf counts payoffs (length bytes)) e is) bytes

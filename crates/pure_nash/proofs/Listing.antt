@@ -20,7 +20,8 @@ use Rattle.refusal.proofs.Told.{told-values}
 use Rattle.table.specs.Table.{profilePart, tableGame}
 use Rattle.table.specs.Marks.{marked}
 use Rattle.table.specs.Meaning.{Table}
-use Rattle.table.specs.Outputs.{roomRefusal, written, joined}
+use Rattle.table.specs.Outputs.{roomRefusal, written, joined, over}
+use Rattle.table.proofs.Outputs.{refused-kept}
 use Rattle.equilibrium_search.specs.Found.{Found}
 use Rattle.profile_listing.specs.Chosen.{chosen, foundAnswer, foundChoices, foundUtilities}
 use Rattle.profile_listing.proofs.Listing.{flat-map}
@@ -101,6 +102,16 @@ module _ (counts : List ℕ) (payoffs : List Float) (a b : ℕ) where
         is,
         ap (flatMap (λ x. x)) (take-length es),
         ap (flatMap (λ x. x)) (ap (λ (n : ℕ). take n (map part es)) (sym (length-map es part)) ∙ take-length (map part es)) ∙ flat-map part es,
+      )
+
+  -- A listing that refuses, by 13 too, leaves both outputs as they were.
+  pub listing-kept : (m : Marks) (r : Refusal) (e : ℕ) → listingAnswer counts payoffs r m a b ≡ refused e → (old : List ℕ) (old′ : List Float)
+      → (over (listedChoices counts payoffs r m a b) old ≡ old) × (over (listedUtilities counts payoffs r m a b) old′ ≡ old′)
+  unfolding listedChoices listedUtilities flatMap
+  listing-kept m r e is old old′ =
+      let es : List (List ℕ) = equilibria (tableGame counts payoffs) m in (
+        refused-kept (λ t. joined (written t) es) (λ _. refl) _ e is old,
+        refused-kept (λ t. joined (written t) (map (profilePart counts payoffs) es)) (λ _. refl) _ e is old′,
       )
 
   -- Where something refuses before, it is told and nothing is written.

@@ -8,7 +8,7 @@ use native.Mathlib.Omega.{arith}
 use lib.Dec.{T}
 use Rattle.refusal.specs.Refusal.{Refusal, numberOf, _then_}
 use Rattle.refusal.specs.declared.NormalFormError.{NormalFormError}
-use Rattle.refusal.specs.Told.{values, refused, unless, toldOf, status, tells, toldUnit, toldUsize, toldBool}
+use Rattle.refusal.specs.Told.{Told, values, refused, unless, toldOf, status, tells, toldUnit, toldUsize, toldBool}
 use Rattle.refusal.specs.declared.UnitResult.{UnitResult}
 use Rattle.refusal.specs.declared.UnitResult.the-variants.{Ok as ok, Err as err}
 use Rattle.refusal.specs.declared.UsizeResult.{UsizeResult}
@@ -54,6 +54,11 @@ module _ {A : Type 0} where
 pub told-of : {A B : Type 0} (f : A → B) (r : Refusal) (v : A) → toldOf f (unless r v) ≡ unless r (f v)
 told-of f none v = refl
 told-of f (some e) v = refl
+
+-- and a refusal that is told of values is the one that is told
+pub told-of-refused : {A B : Type 0} (f : A → B) (t : Told A) (n : ℕ) → toldOf f t ≡ refused n → t ≡ refused n
+told-of-refused f (values v) n h = absurd (apart (f v) n h)
+told-of-refused f (refused m) n h = let is : m ≡ n = cc in ap (λ (k : ℕ). refused k) is
 
 -- ---- what was told determines the answer, since each refusal has a number of its own
 

@@ -23,6 +23,11 @@ abbrev pub unless : {A : Type 0} → Refusal → A → Told A
 unless none v = values v
 unless (some e) v = refused (numberOf e)
 
+-- v, or w where a refusal applies: what is handed back beside an answer
+abbrev pub unlessRefused : {A : Type 0} → Refusal → A → A → A
+unlessRefused none v w = v
+unlessRefused (some e) v w = w
+
 -- what is told of the values by f, or the same refusal
 abbrev pub toldOf : {A B : Type 0} → (A → B) → Told A → Told B
 toldOf f (values v) = values (f v)

@@ -1,12 +1,17 @@
--- What the records of a list are: the strategies and the payoffs that two outputs of its length are given. Assumes nothing.
-use mathlib.Core.Path.{_≡_, _∙_}
+-- What the records of a list are: the strategies and the payoffs that two outputs of its length are given. A refused
+-- call writes nothing. Assumes nothing.
+use mathlib.Core.Path.{_≡_, refl, _∙_}
 use mathlib.Core.List.{List, map, map-map, map-id}
 use Prim.Native.Nat.{ℕ}
+use lib.ListN.{take}
 use lib.Ieee.{Float}
+use Rattle.refusal.specs.Told.{refused}
 use Rattle.utility.specs.Value.{valueOf}
 use Rattle.table.specs.Table.{payoffAt}
-use Rattle.best_response.specs.Answers.{against, responsesWritten, responseUtilities}
-use Rattle.response_list.specs.Responses.{response, recordsWritten}
+use Rattle.table.specs.Outputs.{written, over}
+use Rattle.table.proofs.Outputs.{refused-kept}
+use Rattle.best_response.specs.Answers.{against, responses, responsesWritten, responseUtilities}
+use Rattle.response_list.specs.Responses.{response, recordsAnswer, recordsWritten}
 use Rattle.response_list.specs.declared.BestResponse.{BestResponse}
 
 module _ (counts : List ℕ) (payoffs : List Float) (p : ℕ) (opponents : List ℕ) (room : ℕ) where
@@ -25,3 +30,8 @@ module _ (counts : List ℕ) (payoffs : List Float) (p : ℕ) (opponents : List 
       ≡ responseUtilities counts payoffs p opponents strategies
   unfolding responseUtilities
   records-utilities = map-map (λ (r : BestResponse). valueOf (r .utility)) recordOf strategies
+
+  -- a call that refuses, by 13 too, leaves the list as it was
+  pub records-kept : (e : ℕ) → recordsAnswer counts payoffs p opponents room ≡ refused e → (old : List BestResponse)
+      → over (recordsWritten counts payoffs p opponents room) old ≡ old
+  records-kept e is old = refused-kept (λ t. map recordOf (take (written t) (responses counts payoffs p opponents))) (λ _. refl) _ e is old

@@ -1,11 +1,12 @@
 -- What the dominance list has, in quantifiers: each dominated strategy of the player once, ascending, with the lowest of its dominators.
--- Assumes nothing.
+-- A refused call writes nothing. Assumes nothing.
 use mathlib.Core.Path.{_≡_, refl, sym, ap, ap₂, subst}
 use mathlib.Core.List.{List, List·Memᴰ·head as here, List·Memᴰ·not-nil as not-in-nil, List·Memᴰ·eq-of-singleton as in-singleton}
 use mathlib.Core.Logic.{_↔_}
 use mathlib.Core.Option.{Option, none, some}
 use Prim.Native.Nat.{ℕ, _<_}
 use native.Mathlib.Omega.{arith}
+use lib.Ieee.{Float}
 use Rattle.game.specs.Finite.{_∈_, below, Sorted, Lists, First}
 use Rattle.game.specs.Game.{Game, count, Marks}
 use Rattle.game.specs.Solution.{dominator}
@@ -13,7 +14,10 @@ use Rattle.game.specs.Meaning.{Dominator}
 use Rattle.game.proofs.Finite.{below-mem, of-flatMap, to-flatMap}
 use Rattle.game.proofs.Sorted.{sorted-flatMap, sorted-below, lowest-some, lists-iff}
 use Rattle.game.proofs.Solution.{dominator-law}
-use Rattle.strict_dominance.specs.Answers.{DominatedStrategy, beside, dominatedOf}
+use Rattle.refusal.specs.Told.{refused}
+use Rattle.table.specs.Outputs.{over}
+use Rattle.table.proofs.Outputs.{refused-kept}
+use Rattle.strict_dominance.specs.Answers.{DominatedStrategy, beside, dominatedOf, strategiesOf, dominatorsOf, dominatedAnswer, writtenOf, dominatedWritten}
 
 -- ascending by strategy
 abbrev pub Lower : DominatedStrategy → DominatedStrategy → Type 0
@@ -67,3 +71,11 @@ module _ (g : Game) (m : Marks) (p : ℕ) where
         λ h. (h .0, lowest-some (Dominator g m p s) (dominator g m p s) law (d .dominatedBy) (h .1 .0) (h .1 .1)),
       ))
       dominated-law
+
+-- a call that refuses, by 13 too, leaves both outputs as they were
+pub dominated-kept : (counts : List ℕ) (payoffs : List Float) (p a b e : ℕ) → dominatedAnswer counts payoffs p a b ≡ refused e → (old old′ : List ℕ)
+    → let w = dominatedWritten counts payoffs p a b in (over (strategiesOf w) old ≡ old) × (over (dominatorsOf w) old′ ≡ old′)
+dominated-kept counts payoffs p a b e is old old′ = (
+  refused-kept (λ t. strategiesOf (writtenOf counts payoffs p t)) (λ _. refl) _ e is old,
+  refused-kept (λ t. dominatorsOf (writtenOf counts payoffs p t)) (λ _. refl) _ e is old′,
+)

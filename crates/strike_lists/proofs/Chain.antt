@@ -2,6 +2,7 @@
 -- marks, and no survivors become foreign. Assumes nothing.
 use mathlib.Core.Path.{_≡_, refl, sym, ap, _∙_, subst, subst⁻¹}
 use mathlib.Core.Logic.{_↔_, ⊎-elim}
+use mathlib.Core.Bool.{cond}
 use mathlib.Core.List.{List, [], _∷_, _++_, map}
 use Prim.Native.Nat.{ℕ, suc, _+_, _<_}
 use native.Mathlib.Nat.{zero-add}
@@ -14,22 +15,29 @@ use Rattle.game.specs.Demand3.{Accepted}
 use Rattle.game.proofs.Finite.{eqb-T, either}
 use Rattle.game.proofs.Game.{whole-law}
 use Rattle.game.proofs.Strikes.{Answered, answer-law, without-law}
-use Rattle.refusal.specs.Told.{Told, values, refused as toldRefused}
+use Rattle.refusal.specs.Told.{Told, values, refused as toldRefused, tells}
+use Rattle.refusal.proofs.Refusal.{then-none}
 use Rattle.table.specs.Limits.{maxStrategies}
 use Rattle.table.specs.Table.{tableGame}
+use Rattle.table.specs.Checks.{tableRefusal}
 use Rattle.table.specs.Meaning.{Table}
 use Rattle.table.proofs.Checks.{table-law}
 use Rattle.table.proofs.Space.{space-count}
 use Rattle.table.specs.Answers.{spaceOf}
 use Rattle.survivors.specs.declared.Survivors.{Survivors}
-use Rattle.survivors.specs.Survivors.{marksOf, withoutMark, markCount, freshOf}
+use Rattle.survivors.specs.Survivors.{marksOf, withoutMark, markCount, freshOf, foreignRefusal}
 use Rattle.survivor_calls.specs.Answers.{toldAnswer, handedBack, strikeAnswer, strikeLeaves}
 use Rattle.strike_lists.specs.Answers.{Chain, chainFrom, acceptedOf}
 use Rattle.survivors.specs.Meaning.{Own}
 use Rattle.strike_lists.specs.Meaning.{Struck, done, struck, kept}
 use Rattle.survivors.proofs.Marks.{Full, fresh-full, fresh-marks, without-full, without-marks, count-without}
-use Rattle.survivors.proofs.Foreign.{own-not}
-use Rattle.survivor_calls.proofs.Cases.{strike-told, not-foreign}
+use Rattle.survivors.proofs.Foreign.{own-not, foreign-law}
+use Rattle.survivor_calls.proofs.Cases.{told-struck, strike-told, answered, not-foreign, strike-accepted}
+
+-- one answer more
+pub accepted-cons : (a : Told ℕ) (ans : List (Told ℕ)) → acceptedOf (a ∷ ans) ≡ cond (tells a) 1 0 + acceptedOf ans
+accepted-cons (values t) ans = omega arith
+accepted-cons (toldRefused e) ans = omega arith
 
 module _ (counts : List ℕ) (payoffs : List Float) where
   -- what every strike of a list keeps of the survivors: as many marks as there may be, and they are not foreign
@@ -95,7 +103,45 @@ module _ (counts : List ℕ) (payoffs : List Float) where
             };
           }
 
+    -- whatever it answers, an acceptance and the marks that it leaves make up the marks before, and what it leaves is no foreign survivors
+    abbrev Left : Told ℕ → Type 0
+    Left a = (cond (tells a) 1 0 + markCount (handedBack v c a) ≡ markCount v) × Good (handedBack v c a)
+
+    left-so : Left (strikeAnswer counts payoffs v c)
+    left-so = subst⁻¹ Left told (go (answer (tableGame counts payoffs) (marksOf v) c) (answer-law (tableGame counts payoffs) (marksOf v) c))
+      where
+        go : (a : Answer) → Answered (tableGame counts payoffs) (marksOf v) c a → Left (toldAnswer a)
+        go (refused e) h = (zero-add _, k)
+        go (accepted u) h = (omega (arith, less u h), stays u h)
+
+    strike-left : (cond (tells (strikeAnswer counts payoffs v c)) 1 0 + markCount (strikeLeaves counts payoffs v c) ≡ markCount v) × Good (strikeLeaves counts payoffs v c)
+    unfolding strikeLeaves
+    strike-left = left-so
+
+  -- An accepted strike, repeated on the survivors that it handed back, gives 14. A record's marks are as many as there may be: what the logic knows
+  -- of an array.
+  pub struck-again : (v : Survivors) → Full v → (c : Strategy) (u : ℕ) → strikeAnswer counts payoffs v c ≡ values u
+      → strikeAnswer counts payoffs (strikeLeaves counts payoffs v c) c ≡ toldRefused 14
+  unfolding strikeLeaves tableGame
+  struck-again v full c u is =
+      let ok = answered counts payoffs v c u is in
+      let (first, own) = then-none (tableRefusal counts payoffs) (foreignRefusal counts v) .0 ok in
+      let t = table-law counts payoffs .0 first in
+      let k : Good v = record { full = full; own = foreign-law counts v .0 own } in
+      let a = strike-accepted counts payoffs v c ok u .0 is in
+      let gone = told-struck counts payoffs (marksOf (withoutMark v c)) (c .player) (c .number) (a .survives .0 .0) (λ _ h. after-law t v k c u a (c .player) (c .number) .0 h .1 (refl, refl)) in
+      ap (λ (b : Told ℕ). strikeAnswer counts payoffs (handedBack v c b) c) is ∙ told t (withoutMark v c) (stays t v k c u a) c ∙ sym gone
+
   -- ---- a chain of them
+
+  -- accepted answers + marks left = marks at the start
+  pub chain-counted : Table counts payoffs → (v : Survivors) → Good v → (cs : List Strategy)
+      → let x = chainFrom counts payoffs v cs in acceptedOf (x .answers) + markCount (x .survivors) ≡ markCount v
+  chain-counted t v k [] = zero-add _
+  chain-counted t v k (c ∷ cs) =
+      let w = strikeLeaves counts payoffs v c in
+      let (one, good) = strike-left t v k c in
+      omega (arith, one, accepted-cons (strikeAnswer counts payoffs v c) (chainFrom counts payoffs w cs .answers), chain-counted t w good cs)
 
   -- a chain with one more answer in front, and with one more call at the end
   abbrev with-answer : Told ℕ → Chain → Chain
@@ -121,7 +167,6 @@ module _ (counts : List ℕ) (payoffs : List Float) where
     pub marks : marksOf (x .survivors) ≡ m
     pub stays : Good (x .survivors)
     pub calls : Struck counts payoffs v cs (x .answers) (x .survivors)
-    pub counted : acceptedOf (x .answers) + markCount (x .survivors) ≡ markCount v
 
   -- the run of the calls cs from the marks m
   abbrev RanFrom : Survivors → List Strategy → Marks → Type 0
@@ -146,7 +191,6 @@ module _ (counts : List ℕ) (payoffs : List Float) where
             marks = i .marks;
             stays = i .stays;
             calls = kept is h (leaves is) (i .calls);
-            counted = i .counted;
           })
       go (accepted u) h is =
           let e = taken t v k c u h in
@@ -156,9 +200,8 @@ module _ (counts : List ℕ) (payoffs : List Float) where
             marks = i .marks;
             stays = i .stays;
             calls = struck is h (ap marksOf (leaves is) ∙ e) (subst⁻¹ (λ (w : Survivors). let x = chainFrom counts payoffs (withoutMark v c) cs in Struck counts payoffs w cs (x .answers) (x .survivors)) (leaves is) (i .calls));
-            counted = omega (arith, i .counted, less t v k c u h);
           })
 
   pub ran : Table counts payoffs → (v : Survivors) → Good v → (cs : List Strategy) → RanFrom v cs (marksOf v)
-  ran t v k [] = record { answers = refl; marks = refl; stays = k; calls = done; counted = zero-add _ }
+  ran t v k [] = record { answers = refl; marks = refl; stays = k; calls = done }
   ran t v k (c ∷ cs) = ran-cons t v k c cs (λ w j. ran t w j cs)

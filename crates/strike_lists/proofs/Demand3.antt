@@ -30,7 +30,7 @@ use Rattle.strike_lists.specs.Demand3.{SameListing, HoldsAll, Demand3}
 use Rattle.survivors.proofs.Marks.{fresh-marks, count-fresh}
 use Rattle.survivors.proofs.Foreign.{own-not, foreign-law}
 use Rattle.survivor_calls.proofs.Cases.{not-foreign}
-use Rattle.strike_lists.proofs.Chain.{Good, fresh-good, Ran, ran}
+use Rattle.strike_lists.proofs.Chain.{Good, fresh-good, chain-counted, Ran, ran}
 use Rattle.strike_lists.proofs.Written.{answers-said}
 
 module _ (counts : List ℕ) (payoffs : List Float) (t : Table counts payoffs) where
@@ -111,7 +111,7 @@ module _ (counts : List ℕ) (payoffs : List Float) (t : Table counts payoffs) w
         same-listing = same-listing (left cs) (r .stays) is;
         same-held = same-held (left cs) (r .stays) is;
         number = refl;
-        counted = r .counted ∙ count-fresh counts (t .shape);
+        counted = chain-counted counts payoffs t (freshOf counts) (fresh-good counts payoffs t) cs ∙ count-fresh counts (t .shape);
         same-marks = λ ds a b.
             let s = from-fresh ds in
             r .marks ∙ d .same-marks ds (subst (Undominated g) (r .marks) a) (subst (Undominated g) (s .marks) b) ∙ sym (s .marks);

@@ -17,6 +17,7 @@ use Rattle.game.proofs.Finite.{filter-append, filter-at-most}
 use Rattle.refusal.specs.Refusal.{numberOf}
 use Rattle.refusal.specs.Told.{Told, values, refused, status, tells}
 use Rattle.refusal.specs.declared.NormalFormError.{NormalFormError}
+use Rattle.refusal.proofs.Told.{told-refused}
 use Rattle.table.specs.Outputs.{over}
 use Rattle.table.proofs.Outputs.{over-length, over-more}
 use Rattle.survivors.specs.declared.Survivors.{Survivors}
@@ -138,6 +139,15 @@ module _ (counts : List ℕ) (payoffs : List Float) (cs : List Strategy) (a b : 
       → (refused (numberOf e) ≡ strikesAnswer counts payoffs cs a b) × (noSurvivors ≡ strikesLeave counts payoffs cs a b) × ([] ≡ strikesWritten counts payoffs cs a b)
   unfolding strikesAnswer strikesLeave strikesWritten
   strikes-refused e h = rw h (refl, refl, refl)
+
+  -- so that both outputs are left as they were, whatever refuses, 13 too
+  pub strikes-kept : (e : ℕ) → strikesAnswer counts payoffs cs a b ≡ refused e → (old old′ : List ℕ)
+      → let w = strikesWritten counts payoffs cs a b in (over (map status w) old ≡ old) × (over (map dominatorOf w) old′ ≡ old′)
+  unfolding strikesAnswer
+  strikes-kept e is old old′ =
+      let (d, r, _) = told-refused (strikesRefusal counts payoffs cs a b) _ e (sym is) in
+      let none = sym (strikes-refused d r .2) in
+      (ap (λ (w : List (Told ℕ)). over (map status w) old) none, ap (λ (w : List (Told ℕ)). over (map dominatorOf w) old′) none)
 
   -- and else the chain's answers and survivors
   pub strikes-run : strikesRefusal counts payoffs cs a b ≡ none

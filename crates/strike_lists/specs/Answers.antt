@@ -6,11 +6,11 @@ use lib.Ieee.{Float}
 use Rattle.game.specs.Game.{Strategy, strategy}
 use Rattle.game.specs.Finite.{filter}
 use Rattle.refusal.specs.Refusal.{Refusal, _then_}
-use Rattle.refusal.specs.Told.{Told, values, refused as toldRefused, unless, tells}
+use Rattle.refusal.specs.Told.{Told, values, refused as toldRefused, unless, tells, unlessRefused}
 use Rattle.table.specs.Checks.{tableRefusal}
 use Rattle.table.specs.Outputs.{roomRefusal}
 use Rattle.survivors.specs.declared.Survivors.{Survivors}
-use Rattle.survivors.specs.Survivors.{freshOf, unlessRefused, noSurvivors}
+use Rattle.survivors.specs.Survivors.{freshOf, noSurvivors}
 use Rattle.survivor_calls.specs.Answers.{strikeAnswer, strikeLeaves}
 
 -- ---- a chain of calls

@@ -34,7 +34,7 @@ fn too_short() -> StrikeResult
 }
 
 // The lesser of two numbers.
-fn lesser(a: usize, b: usize) -> usize
+pub fn lesser(a: usize, b: usize) -> usize
     ensures { λ r. ⌜ r ≡ min a b ⌝ }
 {
     if b < a { b } else { a }
@@ -102,9 +102,13 @@ fn strike_each(
             players[i],
             strategies[i],
         );
-        left = struck.survivors;
         let answer = struck.answer;
-        accepted += write_answer(answer, i, answers, dominators);
+        let taken = write_answer(answer, i, answers, dominators);
+        // a refused strike hands back what it was given
+        if taken == 1 {
+            left = struck.survivors;
+        }
+        accepted += taken;
         i += 1;
     }
     StrikeResult {

@@ -70,6 +70,15 @@ module _ (counts : List ℕ) (payoffs : List Float) (v : Survivors) (c : Strateg
   unfolding strikeAnswer
   strike-told h = ap (λ (r : Refusal). orElse r (toldAnswer (answer (tableGame counts payoffs) (marksOf v) c))) h
 
+  -- which tells values only where neither refuses
+  pub answered : (t : ℕ) → strikeAnswer counts payoffs v c ≡ values t → survivorsRefusal counts payoffs v ≡ none
+  unfolding strikeAnswer
+  answered t = go (survivorsRefusal counts payoffs v)
+    where
+      go : (r : Refusal) → orElse r (toldAnswer (answer (tableGame counts payoffs) (marksOf v) c)) ≡ values t → r ≡ none
+      go none h = refl
+      go (some e) h = absurd (apart t (numberOf e) (sym h))
+
 module _ (counts : List ℕ) (payoffs : List Float) (v : Survivors) where
   -- 1 to 7 come first, then 16
   pub table-first : (e : NormalFormError) → tableRefusal counts payoffs ≡ some e → survivorsRefusal counts payoffs v ≡ some e

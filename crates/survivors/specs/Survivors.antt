@@ -2,7 +2,6 @@
 -- document's terms. Assumes nothing.
 use mathlib.Core.Bool.{Bool, false, not, _&&_}
 use mathlib.Core.List.{List, [], map, flatMap}
-use mathlib.Core.Option.{none, some}
 use Prim.Native.Nat.{ℕ}
 use lib.Dec.{ltb, leb, eqb}
 use lib.ListN.{length, getD, set}
@@ -39,11 +38,6 @@ allMarks counts = flatMap (λ p. map (λ s. ltb s (getD counts p 0)) (below maxS
 -- P, the counts, 0 from P on, and every strategy marked
 unfoldable pub freshOf : List ℕ → Survivors
 freshOf counts = record { players = length counts; counts = places counts; marks = allMarks counts }
-
--- v, or w where a refusal applies
-abbrev pub unlessRefused : {A : Type 0} → Refusal → A → A → A
-unlessRefused none v w = v
-unlessRefused (some e) v w = w
 
 -- the survivors beside a refusal: P 0, counts 0 and no mark
 abbrev pub noSurvivors : Survivors

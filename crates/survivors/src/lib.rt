@@ -9,11 +9,11 @@ ghost use mathlib.Core.Path.{_≡_};
 ghost use Prim.Native.Nat.{_<_};
 ghost use lib.ListN.{length};
 ghost use Rattle.game.specs.Game.{strategy as named};
-ghost use Rattle.refusal.specs.Told.{toldUnit, unless};
+ghost use Rattle.refusal.specs.Told.{toldUnit, unless, unlessRefused};
 ghost use Rattle.table.specs.Limits.{maxPlayers, maxStrategies, maxMarks};
 ghost use Rattle.table.specs.Marks.{marked};
 ghost use Rattle.table.specs.Checks.{tableRefusal};
-ghost use Rattle.survivors.specs.Survivors.{withoutMark, allMarks, freshOf, unlessRefused, noSurvivors, markedFrom, foreign};
+ghost use Rattle.survivors.specs.Survivors.{withoutMark, allMarks, freshOf, noSurvivors, markedFrom, foreign};
 
 // The survivors of a table, document 01's term: P, the counts, and a mark for each strategy that survives, as many places to a player as
 // it may have strategies. As `fresh` and `strike` make them, a player from P on has count 0 and no mark.

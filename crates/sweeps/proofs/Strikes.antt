@@ -17,7 +17,7 @@ use Rattle.survivors.specs.Survivors.{markCount}
 use Rattle.survivor_calls.specs.Answers.{handedBack, strikeAnswer, strikeLeaves}
 use Rattle.strike_lists.specs.Answers.{chainFrom, acceptedOf}
 use Rattle.strike_lists.specs.Meaning.{Struck, done, struck, kept}
-use Rattle.strike_lists.proofs.Chain.{Good, ran}
+use Rattle.strike_lists.proofs.Chain.{Good, chain-counted, ran}
 use Rattle.sweeps.specs.Sweeps.{Strike, strikesOf, struckBy}
 use Rattle.sweeps.specs.Meaning.{Named}
 
@@ -68,7 +68,7 @@ module _ (counts : List ℕ) (payoffs : List Float) where
 
   module _ (t : Table counts payoffs) (v : Survivors) (k : Good counts payoffs v) (cs : List Strategy) where
     pub struck-counted : length (struckBy counts payoffs v cs) + markCount (chainFrom counts payoffs v cs .survivors) ≡ markCount v
-    struck-counted = let r = ran counts payoffs t v k cs in omega (arith, strikes-many (r .calls), r .counted)
+    struck-counted = omega (arith, strikes-many (ran counts payoffs t v k cs .calls), chain-counted counts payoffs t v k cs)
 
   -- ---- a list that strikes nothing: each of its calls is refused, and the survivors stay
 

@@ -1,4 +1,5 @@
--- Writing a list into an output one element after the other, and whether two outputs have room. Assumes nothing.
+-- Writing a list into an output one element after the other, whether two outputs have room, and that a refused call writes nothing.
+-- Assumes nothing.
 use mathlib.Core.Path.{_≡_, sym, ap, ap₂, _∙_}
 use mathlib.Core.Bool.{Bool}
 use mathlib.Core.List.{List, [], _∷_, _++_}
@@ -11,6 +12,7 @@ use lib.Dec.{ltb}
 use lib.ListN.{length, getD, set, take, drop, length-append, length-drop}
 use lib.Seq.{drop-cons, set-append-seam, append-snoc, take-suc, length-take-le}
 use Rattle.refusal.specs.Refusal.{when, _then_}
+use Rattle.refusal.specs.Told.{Told, refused}
 use Rattle.refusal.specs.declared.NormalFormError.the-variants.{OutputTooShort}
 use Rattle.table.specs.Outputs.{roomRefusal, over}
 
@@ -48,3 +50,10 @@ module _ (n a b : ℕ) where
   pub room-fits : n ≤ a → n ≤ b → roomRefusal n a b ≡ none
   unfolding roomRefusal
   room-fits h k = ap₂ (λ (s t : Bool). when s OutputTooShort then when t OutputTooShort) (le-ltb a n h) (le-ltb b n k)
+
+-- ---- what a refused call writes
+
+-- Nothing, whichever refusal it is, 13 too: the output is what it was. `of t` is what a call that tells t writes.
+pub refused-kept : {A B : Type 0} (of : Told A → List B) → ((e : ℕ) → of (refused e) ≡ [])
+    → (t : Told A) (e : ℕ) → t ≡ refused e → (old : List B) → over (of t) old ≡ old
+refused-kept of nothing t e is old = ap (λ u. over (of u) old) is ∙ ap (λ xs. over xs old) (nothing e)

@@ -1,12 +1,12 @@
 -- What each call of this crate answers: the definitions that the contracts name. Assumes nothing.
 use mathlib.Core.List.{List, [], _++_}
 use mathlib.Core.Option.{none, some}
-use Prim.Native.Nat.{ℕ}
+use Prim.Native.Nat.{ℕ, _*_}
 use lib.ListN.{length, take, replicate}
 use lib.Ieee.{Float}
 use Rattle.game.specs.Finite.{product}
 use Rattle.refusal.specs.Refusal.{Refusal, _then_}
-use Rattle.refusal.specs.Told.{Told, unless}
+use Rattle.refusal.specs.Told.{Told, unless, unlessRefused}
 use Rattle.refusal.specs.declared.UnitResult.the-variants.{Ok as ok, Err as err}
 use Rattle.refusal.specs.declared.UsizeResult.{UsizeResult}
 use Rattle.refusal.specs.declared.UsizeResult.the-variants.{Ok, Err}
@@ -55,11 +55,10 @@ abbrev pub payoffAnswer : List ℕ → List Float → List ℕ → ℕ → Told 
 payoffAnswer counts payoffs x p =
     unless (tableRefusal counts payoffs then playerRefusal counts p then profileRefusal counts x) (payoffAt counts payoffs p x)
 
--- the part, or the empty one where a refusal applies
-abbrev pub partUnless : Refusal → List Float → List Float
-partUnless none part = part
-partUnless (some e) part = []
-
 -- the payoffs of one profile, and an empty part where the offset call refuses
 abbrev pub profilePayoffs : List ℕ → List Float → List ℕ → List Float
-profilePayoffs counts payoffs x = partUnless (tableRefusal counts payoffs then profileRefusal counts x) (profilePart counts payoffs x)
+profilePayoffs counts payoffs x = unlessRefused (tableRefusal counts payoffs then profileRefusal counts x) (profilePart counts payoffs x) []
+
+-- where that part starts in the caller's payoffs: at offset × P, and an empty one at their start
+abbrev pub partFirst : List ℕ → List Float → List ℕ → ℕ
+partFirst counts payoffs x = unlessRefused (tableRefusal counts payoffs then profileRefusal counts x) (offset counts x * length counts) 0

@@ -7,7 +7,7 @@ use utility::Utility;
 use utility::UtilityResult;
 ghost use mathlib.Core.Path.{_≡_};
 ghost use mathlib.Core.Option.{none};
-ghost use Prim.Native.Nat.{_<_};
+ghost use Prim.Native.Nat.{_+_, _*_, _<_};
 ghost use lib.Dec.{ltb};
 ghost use lib.ListN.{length};
 ghost use Rattle.refusal.specs.Told.{toldUnit, toldUsize, unless};
@@ -15,7 +15,7 @@ ghost use Rattle.utility.specs.Value.{toldUtility};
 ghost use Rattle.table.specs.Table.{offset, stride, cellRank};
 ghost use Rattle.table.specs.Meaning.{Shape, Finites};
 ghost use Rattle.table.specs.Checks.{countsRefusal, tableRefusal, profileRefusal};
-ghost use Rattle.table.specs.Answers.{places, spaceUnless, spaceResult, countsAnswer, tableAnswer, offsetAnswer, payoffAnswer, profilePayoffs};
+ghost use Rattle.table.specs.Answers.{places, spaceUnless, spaceResult, countsAnswer, tableAnswer, offsetAnswer, payoffAnswer, profilePayoffs, partFirst};
 
 // The limits of document 01, "The table".
 pub const MAX_PLAYERS: usize = 8;
@@ -193,9 +193,12 @@ pub fn payoff(counts: &[usize], payoffs: &[f64], profile: &[usize], player: usiz
     }
 }
 
-// The payoffs of one profile, a part of `payoffs`: that of each player in order. Empty where `offset` refuses.
+// The payoffs of one profile, that of each player in order: the part of `payoffs` at offset × P, no copy of it. Empty where `offset` refuses.
+// A slice has a block and a place in it: the part lies in the same block, 8 bytes for each payoff before it further on.
 pub fn profile_payoffs<'a>(counts: &[usize], payoffs: &'a [f64], profile: &[usize]) -> &'a [f64]
     ensures { λ r. ⌜ now r ≡ profilePayoffs (now (counts .entry)) (now (payoffs .entry)) (now (profile .entry)) ⌝ }
+    ensures { λ r. ⌜ r .ptr .0 ≡ payoffs .entry .ptr .0 ⌝ }
+    ensures { λ r. ⌜ r .ptr .1 ≡ payoffs .entry .ptr .1 + 8 * partFirst (now (counts .entry)) (now (payoffs .entry)) (now (profile .entry)) ⌝ }
 {
     match offset(counts, payoffs, profile) {
         UsizeResult::Err(_) => &payoffs[0..0],

@@ -3,11 +3,11 @@ use mathlib.Core.Path.{_≡_, sym, ap, _∙_}
 use mathlib.Core.Option.{none}
 use borrow.Author.Needs.{needs}
 use Rattle.refusal.specs.Refusal.{Refusal}
-use Rattle.refusal.specs.Told.{status, unless, toldUnit}
+use Rattle.refusal.specs.Told.{status, unless, toldUnit, unlessRefused}
 use Rattle.refusal.proofs.Told.{told-values, refused-again}
 use Rattle.table.specs.Checks.{tableRefusal}
 use Rattle.survivors.specs.declared.Survivors.{Survivors}
-use Rattle.survivors.specs.Survivors.{freshOf, unlessRefused, noSurvivors}
+use Rattle.survivors.specs.Survivors.{freshOf, noSurvivors}
 use Rattle.c_outputs.specs.Status.{output, markBytes}
 use Rattle.c_outputs.proofs.Outputs.{told-err}
 use Rattle.exports.proofs.sigvanyor_fresh.Statement.{statement}

@@ -1,6 +1,7 @@
 -- `strike_lists::strike_each` meets its contract. The invariant: the first i calls were run, and their answers are written. Assumes nothing.
 use mathlib.Core.Path.{_≡_, refl, sym, ap, _∙_, subst⁻¹}
 use mathlib.Core.Bool.{Bool, true, false, cond}
+use mathlib.Core.Logic.{⊎-elim}
 use mathlib.Core.List.{List, map}
 use Prim.Native.Nat.{ℕ, _+_, _/_, _-_, _≤_, _<_}
 use native.Mathlib.Nat.{mul-div-cancel}
@@ -10,7 +11,7 @@ use lib.Seq.{take-all}
 use lib.Ieee.{Float}
 use Rattle.game.specs.Finite.{product}
 use Rattle.game.specs.Game.{Strategy, strategy}
-use Rattle.refusal.specs.Told.{Told, values, toldUsize, status, tells}
+use Rattle.refusal.specs.Told.{Told, values, refused, toldUsize, status, tells}
 use Rattle.table.specs.Meaning.{Table}
 use Rattle.table.specs.Outputs.{over}
 use Rattle.survivors.specs.declared.Survivors.{Survivors}
@@ -114,7 +115,7 @@ strike-marked-requires c κs =
     (t, ap (λ (n : ℕ). n / length (cs (c .before .before .before))) (t .full) ∙ mul-div-cancel (product (cs (c .before .before .before))) (t .shape .some))
 
 write-answer-requires : tie.Need-write-answer-requires Inv-loop μ-loop
-write-answer-requires c κs = let r = room (c .before .before .before .before .before .before) in (r .2, r .3)
+write-answer-requires c κs = let r = room (c .before .before .before .before .before) in (r .2, r .3)
 
 -- what the strike answers and hands back is the next of the chain
 module _ (c : tie.After-strike-marked Inv-loop μ-loop) where
@@ -136,29 +137,28 @@ module _ (c : tie.After-strike-marked Inv-loop μ-loop) where
   unfolding strikeLeaves
   leaves-so = c .strike-marked .ensures .1 ∙ ap (handedBack before (call turn)) answers-so
 
-  -- so that one call more is written
-  module _ (a : Told ℕ) (is : toldUsize (c .strike-marked .result .answer) ≡ a) (accepted : ℕ) (answers dominators : List ℕ) where
-    next : accepted ≡ turn .before .loop .accepted + cond (tells a) 1 0
-        → answers ≡ set (turn .before .loop .answers) (i (turn .before)) (status a)
-        → dominators ≡ set (turn .before .loop .dominators) (i (turn .before)) (dominatorOf a)
-        → let l = turn .before in
-        Written (cs l) (ps l) (calls l) (start l .args .answers .now) (start l .args .dominators .now) (i l + 1) (c .strike-marked .result .survivors) accepted answers dominators
-    next x y z =
-        let l = turn .before in
-        let s = start l in
-        written-more (cs l) (ps l) (calls l) (s .args .answers .now) (s .args .dominators .now) (l .loop .inv) (under turn) (s .pre .1 .1 .0) (s .pre .1 .1 .1)
-        (call turn) (λ d. calls-at (s .args .players .now) (s .args .strategies .now) (i l) d (under turn)) a (sym is ∙ answers-so) (c .strike-marked .result .survivors) leaves-so
-        accepted x answers dominators y z
+-- after the branch
+module _ (c : tie.Joined1 Inv-loop μ-loop) where
+  abbrev written : tie.After-write-answer Inv-loop μ-loop
+  written = c .before .before .before .before .before
 
--- the loop's turn, from its end
-abbrev struck : tie.After-slice-known4 Inv-loop μ-loop → tie.After-strike-marked Inv-loop μ-loop
-struck c = c .before .before .before .before .before .before .before .before
+  abbrev struck : tie.After-strike-marked Inv-loop μ-loop
+  struck = written .before .before .before
+
+  abbrev a : Told ℕ
+  a = toldUsize (struck .strike-marked .result .answer)
+
+  -- a strike whose answer is not counted was refused, and hands back what it was given
+  not-taken : (b : Told ℕ) → a ≡ b → (written .write-answer .result ≡ 1 → ⊥) → before struck ≡ struck .strike-marked .result .survivors
+  not-taken (values t) is n = absurd (n (written .write-answer .ensures .0 ∙ ap (λ (b : Told ℕ). cond (tells b) 1 0) is))
+  not-taken (refused e) is n = sym (struck .strike-marked .ensures .1 ∙ ap (handedBack (before struck) (call (turn struck))) is)
+
+  left-so : c .if1 .left ≡ strikeLeaves (cs (turn struck .before)) (ps (turn struck .before)) (before struck) (call (turn struck))
+  left-so =
+      ⊎-elim (λ w. w .2 ∙ leaves-so struck) (λ w. w .1 ∙ not-taken a refl (w .0 .left) ∙ leaves-so struck) (c .if1 .came)
 
 add-accepted : tie.Need-add-accepted Inv-loop μ-loop
-add-accepted c =
-    let n = turn (struck c) in
-    let r = c .before .before .before .before .write-answer .ensures .0 in
-    omega (arith, few n, room n, r, one (tells (toldUsize (struck c .strike-marked .result .answer))))
+add-accepted c = omega (arith, few (turn (struck c)), room (turn (struck c)), written c .write-answer .ensures .0, one (tells (a c)))
   where
     one : (t : Bool) → cond t 1 0 ≤ 1
     one true = omega arith
@@ -172,8 +172,13 @@ loop-less c = omega (arith, turn (struck c) .loop-test)
 
 loop-again : tie.Need-loop-again Inv-loop μ-loop
 loop-again c =
-    let w = c .before .before .before .before .write-answer in
-    next (struck c) _ refl _ _ _ (ap (λ (n : ℕ). turn (struck c) .before .loop .accepted + n) (w .ensures .0)) (w .ensures .1 .0) (w .ensures .1 .1)
+    let n = turn (struck c) in
+    let l = n .before in
+    let s = start l in
+    let e = written c .write-answer .ensures in
+    written-more (cs l) (ps l) (calls l) (s .args .answers .now) (s .args .dominators .now) (l .loop .inv) (under n) (s .pre .1 .1 .0) (s .pre .1 .1 .1)
+    (call n) (λ d. calls-at (s .args .players .now) (s .args .strategies .now) (i l) d (under n)) (a c) (answers-so (struck c)) _ (left-so c)
+    _ (ap (λ (n : ℕ). l .loop .accepted + n) (e .0)) _ _ (e .1 .0) (e .1 .1)
 
 same-length : tie.Need-same-length Inv-loop μ-loop
 same-length c = outputs (c .before) .0

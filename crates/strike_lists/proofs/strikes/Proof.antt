@@ -10,7 +10,7 @@ use lib.ListN.{length}
 use lib.Ieee.{Float}
 use Rattle.game.specs.Game.{Strategy}
 use Rattle.refusal.specs.Refusal.{Refusal, numberOf, _then_}
-use Rattle.refusal.specs.Told.{Told, values, refused, toldUnit, status}
+use Rattle.refusal.specs.Told.{Told, values, refused, toldUnit, status, unlessRefused}
 use Rattle.refusal.specs.declared.NormalFormError.{NormalFormError}
 use Rattle.refusal.specs.declared.NormalFormError.the-variants.{OutputTooShort}
 use Rattle.refusal.proofs.Told.{apart, told-values, told-refused}
@@ -19,7 +19,7 @@ use Rattle.table.specs.Outputs.{roomRefusal, over}
 use Rattle.table.proofs.Checks.{table-law}
 use Rattle.table.proofs.Outputs.{first-short, second-short, room-fits}
 use Rattle.survivors.specs.declared.Survivors.{Survivors}
-use Rattle.survivors.specs.Survivors.{freshOf, unlessRefused, noSurvivors}
+use Rattle.survivors.specs.Survivors.{freshOf, noSurvivors}
 use Rattle.strike_lists.specs.Answers.{callsOf, dominatorOf, answersSaid, strikesRefusal, strikesAnswer, strikesLeave, strikesWritten}
 use Rattle.strike_lists.specs.Demand3.{Demand3}
 use Rattle.strike_lists.proofs.Demand3.{demand-3-told}

@@ -1,7 +1,7 @@
 -- `survivor_calls::surviving_equilibria` meets its contract: the listing among the survivors' marks, where neither the table nor the survivors
 -- are refused. Assumes nothing.
-use mathlib.Core.Path.{_≡_, sym, ap, _∙_}
-use mathlib.Core.List.{List}
+use mathlib.Core.Path.{_≡_, refl, sym, ap, _∙_}
+use mathlib.Core.List.{List, flatMap}
 use mathlib.Core.Option.{none, some}
 use Prim.Native.Nat.{ℕ}
 use borrow.Author.Needs.{needs}
@@ -16,7 +16,6 @@ use Rattle.table.specs.Checks.{tableRefusal}
 use Rattle.table.specs.Outputs.{over}
 use Rattle.table.proofs.Table.{TableTold, table-told}
 use Rattle.pure_nash.specs.Answers.{listingAnswer, listedChoices, listedUtilities}
-use Rattle.pure_nash.proofs.Listing.{listing-refused}
 use Rattle.survivors.specs.declared.Survivors.{Survivors}
 use Rattle.survivors.specs.Survivors.{marksOf}
 use Rattle.survivor_calls.specs.Answers.{survivorsRefusal, survivingAnswer, survivingChoices, survivingUtilities}
@@ -44,9 +43,8 @@ module _ (s : tie.Start) where
   kept : (e : NormalFormError) → survivorsRefusal cs ps v ≡ some e
       → (refused (numberOf e) ≡ survivingAnswer cs ps v (length out) (length paid))
       × ((out ≡ over (survivingChoices cs ps v (length out) (length paid)) out) × (paid ≡ over (survivingUtilities cs ps v (length out) (length paid)) paid))
-  kept e h =
-      let r = listing-refused cs ps (length out) (length paid) (marksOf v) (survivorsRefusal cs ps v) e h in
-      (r .0, (sym (ap (λ (xs : List ℕ). over xs out) (r .1)), sym (ap (λ (xs : List Float). over xs paid) (r .2))))
+  unfolding listingAnswer listedChoices listedUtilities flatMap
+  kept e h = rw h (refl, (refl, refl))
 
 -- the arm where the table has no refusal
 module _ (c : tie.After-total) where

@@ -12,7 +12,8 @@ use Rattle.table.specs.Answers.{spaceOf, spaceUnless}
 use Rattle.table.specs.declared.StrategySpace.{StrategySpace}
 use Rattle.table.proofs.Checks.{table-law}
 use Rattle.survivors.specs.declared.Survivors.{Survivors}
-use Rattle.survivors.specs.Survivors.{allMarks, freshOf, unlessRefused, noSurvivors}
+use Rattle.refusal.specs.Told.{unlessRefused}
+use Rattle.survivors.specs.Survivors.{allMarks, freshOf, noSurvivors}
 use Rattle.survivors.proofs.Marks.{fresh-is}
 use Rattle.survivors.proofs.fresh.Statement.{statement}
 use Rattle.survivors.proofs.fresh.Tie as tie

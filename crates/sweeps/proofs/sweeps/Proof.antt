@@ -13,7 +13,8 @@ use Rattle.refusal.specs.Refusal.{Refusal}
 use Rattle.table.specs.Meaning.{Table}
 use Rattle.table.proofs.Checks.{table-law}
 use Rattle.survivors.specs.declared.Survivors.{Survivors}
-use Rattle.survivors.specs.Survivors.{markCount, freshOf, unlessRefused, noSurvivors}
+use Rattle.refusal.specs.Told.{unlessRefused}
+use Rattle.survivors.specs.Survivors.{markCount, freshOf, noSurvivors}
 use Rattle.sweeps.proofs.Ends.{sweeps-done}
 use Rattle.outputs.proofs.Put.{puts-length, puts-within}
 use Rattle.sweeps.specs.Sweeps.{sweeps, strikesNumbers}

@@ -1,18 +1,17 @@
--- `table::profile_payoffs` meets its contract: where the offset is told, the part from offset × P to P further lies within the payoffs.
--- Assumes nothing.
-use mathlib.Core.Path.{_≡_, sym, ap, _∙_}
-use mathlib.Core.List.{List}
+-- `table::profile_payoffs` meets its contract: where the offset is told, the part from offset × P to P further lies within the payoffs, and is
+-- the one handed back. Assumes nothing.
+use mathlib.Core.Path.{_≡_, refl, sym, ap, _∙_}
+use mathlib.Core.List.{List, []}
 use Prim.Native.Nat.{ℕ, _+_, _*_, _-_}
 use native.Mathlib.Omega.{arith}
 use borrow.Author.Needs.{needs}
 use lib.ListN.{length, take, drop}
 use lib.Ieee.{Float}
 use Rattle.refusal.specs.Refusal.{Refusal, _then_}
-use Rattle.refusal.specs.Told.{toldUsize}
+use Rattle.refusal.specs.Told.{toldUsize, unlessRefused}
 use Rattle.refusal.proofs.Told.{told-refused}
 use Rattle.table.specs.Table.{profilePart}
 use Rattle.table.specs.Checks.{tableRefusal, profileRefusal}
-use Rattle.table.specs.Answers.{partUnless}
 use Rattle.table.proofs.Table.{PartTold, part-told}
 use Rattle.table.proofs.profile_payoffs.Statement.{statement}
 use Rattle.table.proofs.profile_payoffs.Tie as tie
@@ -75,17 +74,19 @@ returns c =
     let a = c .before .before .before .before .before .before .before .args in
     let t = told-refused (tableRefusal (a .counts .now) (a .payoffs .now) then profileRefusal (a .counts .now) (a .profile .now)) _ _
     (sym (ap toldUsize (c .before .enum-told .given .1)) ∙ c .before .before .before .offset .ensures) in
-    rw (t .1)
+    (rw (t .1), (refl, rw (t .1) (omega arith)))
 
 returns-2 : tie.Need-returns-2
 unfolding profilePart
 returns-2 c =
     let k = c .before in
     let p = length (counts k) in
-    let e : at k * p + p - at k * p ≡ p = omega arith in
-    ap (λ (n : ℕ). take n (drop (at k * p) (payoffs k))) e
-    ∙ ap (λ (n : ℕ). take p (drop (n * p) (payoffs k))) (told k .is)
-    ∙ sym (ap (λ (r : Refusal). partUnless r (profilePart (counts k) (payoffs k) (profile k))) (told k .none-applies))
+    let e : at k * p + p - at k * p ≡ p = omega arith in (
+      ap (λ (n : ℕ). take n (drop (at k * p) (payoffs k))) e
+          ∙ ap (λ (n : ℕ). take p (drop (n * p) (payoffs k))) (told k .is)
+          ∙ sym (ap (λ (r : Refusal). unlessRefused r (profilePart (counts k) (payoffs k) (profile k)) []) (told k .none-applies)),
+      (refl, rw (told k .none-applies, ← told k .is) (omega arith)),
+    )
 
 pub profile-payoffs-spec : {M : Type 1} → statement M
 profile-payoffs-spec =
