@@ -1,0 +1,2 @@
+-- What is said between the calls.
+mod Calls
