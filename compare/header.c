@@ -1,5 +1,6 @@
-/* Every call of include/sigvanyor.h from C, on document 01's table of counts 2 3 4, its first game, that one's file and number,
- * candidates for it and for a game of 1 x 2, and the header's limits: the header fits the archive. */
+/* Every call of include/sigvanyor.h from C, on document 01's table of counts 2 3 4, its first game,
+ * that one's file and number, candidates for it and for a game of 1 x 2, and the header's limits,
+ * refusals and number: the header fits the archive. */
 #include "sigvanyor.h"
 #include <stdio.h>
 
@@ -19,14 +20,14 @@ static void limits(void) {
     for (int i = 0; i <= SIGVANYOR_MAX_PLAYERS; i++)
         ones[i] = 1;
     expect("MAX_PLAYERS", sigvanyor_from_counts(ones, SIGVANYOR_MAX_PLAYERS, &players, space) == 0);
-    expect("MAX_PLAYERS", sigvanyor_from_counts(ones, SIGVANYOR_MAX_PLAYERS + 1, &players, space) == 2);
+    expect("MAX_PLAYERS", sigvanyor_from_counts(ones, SIGVANYOR_MAX_PLAYERS + 1, &players, space) == SIGVANYOR_TOO_MANY_PLAYERS);
     expect("MAX_STRATEGIES", sigvanyor_from_counts(&strategies, 1, &players, space) == 0);
     strategies++;
-    expect("MAX_STRATEGIES", sigvanyor_from_counts(&strategies, 1, &players, space) == 4);
+    expect("MAX_STRATEGIES", sigvanyor_from_counts(&strategies, 1, &players, space) == SIGVANYOR_TOO_MANY_STRATEGIES);
     expect("MAX_CELLS", 8 * 8 * 16 * 16 * 4 == SIGVANYOR_MAX_CELLS);
     expect("MAX_CELLS", sigvanyor_from_counts(cells, 4, &players, space) == 0);
     cells[3]++;
-    expect("MAX_CELLS", sigvanyor_from_counts(cells, 4, &players, space) == 5);
+    expect("MAX_CELLS", sigvanyor_from_counts(cells, 4, &players, space) == SIGVANYOR_TOO_MANY_CELLS);
     const double zeros[SIGVANYOR_MAX_ACTIONS + 1] = {0}, one[SIGVANYOR_MAX_ACTIONS + 1] = {1};
     const sigvanyor_claim nothing = {0, 0};
     for (size_t m = SIGVANYOR_MAX_ACTIONS; m <= SIGVANYOR_MAX_ACTIONS + 1; m++) {
@@ -39,19 +40,21 @@ static void limits(void) {
 
 /* Two players with 2 strategies each, each one's first strategy dominated by its second. */
 static void solvers(void) {
-    const size_t counts[] = {2, 2}, opponent = 0, profile[] = {1, 1};
+    const size_t counts[] = {2, 2}, opponent = 0, profile[] = {1, 1}, other[] = {1, 0};
     const double payoffs[] = {2, 2, 0, 3, 3, 0, 1, 1};
     size_t first[3] = {9, 9, 9}, second[2] = {9, 9}, number = 99;
     double utilities[3] = {-1, -1, -1};
-    bool equilibrium = false;
+    uint8_t equilibrium = 200;
 
-    expect("best_responses", sigvanyor_best_responses(counts, 2, payoffs, 8, 0, &opponent, 0, first, 1, utilities, 1, &number) == 9);
+    expect("best_responses", sigvanyor_best_responses(counts, 2, payoffs, 8, 0, &opponent, 0, first, 1, utilities, 1, &number) ==
+           SIGVANYOR_OPPONENT_PROFILE_COUNT);
     expect("best_responses", first[0] == 9 && utilities[0] == -1 && number == 99);
     expect("best_responses", sigvanyor_best_responses(counts, 2, payoffs, 8, 0, &opponent, 1, first, 1, utilities, 1, &number) == 0);
     expect("best_responses", number == 1 && first[0] == 1 && first[1] == 9 && utilities[0] == 3 && utilities[1] == -1);
     sigvanyor_best_response responses[2] = {{9, -1}, {9, -1}};
     number = 99;
-    expect("best_response_records", sigvanyor_best_response_records(counts, 2, payoffs, 8, 0, &opponent, 1, responses, 0, &number) == 13);
+    expect("best_response_records", sigvanyor_best_response_records(counts, 2, payoffs, 8, 0, &opponent, 1, responses, 0, &number) ==
+           SIGVANYOR_OUTPUT_TOO_SHORT);
     expect("best_response_records", responses[0].strategy == 9 && responses[0].utility == -1 && number == 99);
     expect("best_response_records", sigvanyor_best_response_records(counts, 2, payoffs, 8, 0, &opponent, 1, responses, 1, &number) == 0);
     expect("best_response_records", number == 1 && responses[0].strategy == 1 && responses[0].utility == 3);
@@ -59,18 +62,24 @@ static void solvers(void) {
     const double equal[] = {1, 1, 1, 1, 1, 1, 1, 1};
     expect("best_response_records", sigvanyor_best_response_records(counts, 2, equal, 8, 0, &opponent, 1, responses, 2, &number) == 0);
     expect("best_response_records", number == 2 && responses[0].strategy == 0 && responses[1].strategy == 1 && responses[1].utility == 1);
-    expect("is_equilibrium", sigvanyor_is_equilibrium(counts, 2, payoffs, 8, profile, 1, &equilibrium) == 11 && !equilibrium);
-    expect("is_equilibrium", sigvanyor_is_equilibrium(counts, 2, payoffs, 8, profile, 2, &equilibrium) == 0 && equilibrium);
+    expect("is_equilibrium", sigvanyor_is_equilibrium(counts, 2, payoffs, 8, profile, 1, &equilibrium) == SIGVANYOR_PROFILE_COUNT);
+    expect("is_equilibrium", equilibrium == 200);
+    expect("is_equilibrium", sigvanyor_is_equilibrium(counts, 2, payoffs, 8, profile, 2, &equilibrium) == 0 && equilibrium == 1);
+    expect("is_equilibrium", sigvanyor_is_equilibrium(counts, 2, payoffs, 8, other, 2, &equilibrium) == 0 && equilibrium == 0);
     number = 99;
-    expect("count_equilibria", sigvanyor_count_equilibria(counts, 2, payoffs, 7, &number) == 6 && number == 99);
+    expect("count_equilibria", sigvanyor_count_equilibria(counts, 2, payoffs, 7, &number) == SIGVANYOR_PAYOFF_COUNT);
+    expect("count_equilibria", number == 99);
     expect("count_equilibria", sigvanyor_count_equilibria(counts, 2, payoffs, 8, &number) == 0 && number == 1);
-    expect("equilibria", sigvanyor_equilibria(counts, 2, payoffs, 8, first, 3, utilities, 1, &number) == 13 && utilities[0] == 3);
+    expect("equilibria", sigvanyor_equilibria(counts, 2, payoffs, 8, first, 3, utilities, 1, &number) ==
+           SIGVANYOR_OUTPUT_TOO_SHORT);
+    expect("equilibria", utilities[0] == 3);
     expect("equilibria", sigvanyor_equilibria(counts, 2, payoffs, 8, first, 3, utilities, 3, &number) == 0 && number == 1);
     expect("equilibria", first[0] == 1 && first[1] == 1 && first[2] == 9);
     expect("equilibria", utilities[0] == 1 && utilities[1] == 1 && utilities[2] == -1);
     number = 99;
     expect("strictly_dominated_strategies",
-           sigvanyor_strictly_dominated_strategies(counts, 2, payoffs, 8, 2, first, 2, second, 2, &number) == 8 && number == 99);
+           sigvanyor_strictly_dominated_strategies(counts, 2, payoffs, 8, 2, first, 2, second, 2, &number) == SIGVANYOR_INVALID_PLAYER);
+    expect("strictly_dominated_strategies", number == 99);
     expect("strictly_dominated_strategies",
            sigvanyor_strictly_dominated_strategies(counts, 2, payoffs, 8, 1, first, 2, second, 2, &number) == 0 && number == 1);
     expect("strictly_dominated_strategies", first[0] == 0 && first[1] == 1 && second[0] == 1 && second[1] == 9);
@@ -86,27 +95,34 @@ static void strikes(void) {
     uint32_t answers[5] = {9, 9, 9, 9, 9};
     double utilities[3] = {-1, -1, -1};
 
-    expect("fresh", sigvanyor_fresh(counts, 2, payoffs, 7, &left.players, left.counts, left.marks) == 6);
+    expect("fresh", sigvanyor_fresh(counts, 2, payoffs, 7, &left.players, left.counts, left.marks) == SIGVANYOR_PAYOFF_COUNT);
     expect("fresh", left.players == 9 && left.counts[0] == 9 && left.marks[0] == 7);
     expect("fresh", sigvanyor_fresh(counts, 2, payoffs, 8, &left.players, left.counts, left.marks) == 0);
     expect("fresh", left.players == 2 && left.counts[1] == 2 && left.counts[7] == 0);
     expect("fresh", left.marks[0] == 1 && left.marks[1] == 1 && left.marks[2] == 0 && left.marks[second] == 1);
     left.marks[second + 1] = 200;
-    expect("strike", sigvanyor_strike(counts, 2, payoffs, 8, 3, left.counts, left.marks, 0, 0, &dominator) == 16 && dominator == 99);
-    expect("strike", sigvanyor_strike(counts, 2, payoffs, 8, 2, left.counts, left.marks, 0, 1, &dominator) == 15 && dominator == 99);
+    expect("strike", sigvanyor_strike(counts, 2, payoffs, 8, 3, left.counts, left.marks, 0, 0, &dominator) ==
+           SIGVANYOR_FOREIGN_SURVIVORS);
+    expect("strike", dominator == 99);
+    expect("strike", sigvanyor_strike(counts, 2, payoffs, 8, 2, left.counts, left.marks, 0, 1, &dominator) ==
+           SIGVANYOR_NOT_DOMINATED);
+    expect("strike", dominator == 99);
     expect("strike", left.marks[0] == 1 && left.marks[second + 1] == 200);
     expect("strike", sigvanyor_strike(counts, 2, payoffs, 8, 2, left.counts, left.marks, 0, 0, &dominator) == 0 && dominator == 1);
     expect("strike", left.marks[0] == 0 && left.marks[1] == 1 && left.marks[second] == 1 && left.marks[second + 1] == 1);
     expect("surviving_equilibria", sigvanyor_surviving_equilibria(counts, 2, payoffs, 8, 2, left.counts, left.marks,
-                                                                  choices, 1, utilities, 3, &number) == 13 && choices[0] == 9);
+                                                                  choices, 1, utilities, 3, &number) == SIGVANYOR_OUTPUT_TOO_SHORT);
+    expect("surviving_equilibria", choices[0] == 9);
     expect("surviving_equilibria", sigvanyor_surviving_equilibria(counts, 2, payoffs, 8, 2, left.counts, left.marks,
                                                                   choices, 3, utilities, 3, &number) == 0 && number == 1);
     expect("surviving_equilibria", choices[0] == 1 && choices[1] == 1 && choices[2] == 9 && utilities[1] == 1 && utilities[2] == -1);
     expect("strikes", sigvanyor_strikes(counts, 2, payoffs, 8, players, 4, strategies, 4, answers, 3, by, 5, &number,
-                                        &left.players, left.counts, left.marks) == 13 && answers[0] == 9 && left.marks[second] == 1);
+                                        &left.players, left.counts, left.marks) == SIGVANYOR_OUTPUT_TOO_SHORT);
+    expect("strikes", answers[0] == 9 && left.marks[second] == 1);
     expect("strikes", sigvanyor_strikes(counts, 2, payoffs, 8, players, 4, strategies, 4, answers, 5, by, 5, &number,
                                         &left.players, left.counts, left.marks) == 0 && number == 2);
-    expect("strikes", answers[0] == 0 && answers[1] == 0 && answers[2] == 14 && answers[3] == 8 && answers[4] == 9);
+    expect("strikes", answers[0] == 0 && answers[1] == 0 && answers[2] == SIGVANYOR_NO_SURVIVING_STRATEGY);
+    expect("strikes", answers[3] == SIGVANYOR_INVALID_PLAYER && answers[4] == 9);
     expect("strikes", by[0] == 1 && by[1] == 1 && by[2] == 0 && by[3] == 0 && by[4] == 9);
     expect("strikes", left.marks[0] == 0 && left.marks[1] == 1 && left.marks[second] == 0 && left.marks[second + 1] == 1);
 }
@@ -144,14 +160,15 @@ static void deposits(void) {
     for (int i = 0; i < 9; i++)
         read_payoffs[i] = -1;
 
-    expect("write", sigvanyor_write(counts, 2, payoffs, 8, bytes, 111, &written) == 13 && written == 99 && bytes[0] == 7);
+    expect("write", sigvanyor_write(counts, 2, payoffs, 8, bytes, 111, &written) == SIGVANYOR_OUTPUT_TOO_SHORT);
+    expect("write", written == 99 && bytes[0] == 7);
     expect("write", sigvanyor_write(counts, 2, payoffs, 8, bytes, 113, &written) == 0 && written == 112);
     expect("write", bytes[2] == 1 && bytes[3] == 2 && bytes[4] == 64 && bytes[7] == 2 && bytes[12] == 128 && bytes[15] == 4);
     expect("write", bytes[108] == 192 && bytes[111] == 27 && bytes[112] == 7);
-    expect("read", sigvanyor_read(bytes, 113, read_counts, 2, read_payoffs, 8, &players) == 17);
-    expect("read", sigvanyor_read(bytes, 112, read_counts, 2, read_payoffs, 7, &players) == 13);
+    expect("read", sigvanyor_read(bytes, 113, read_counts, 2, read_payoffs, 8, &players) == SIGVANYOR_MISSING_WORD);
+    expect("read", sigvanyor_read(bytes, 112, read_counts, 2, read_payoffs, 7, &players) == SIGVANYOR_OUTPUT_TOO_SHORT);
     bytes[111]++;
-    expect("read", sigvanyor_read(bytes, 112, read_counts, 2, read_payoffs, 8, &players) == 19);
+    expect("read", sigvanyor_read(bytes, 112, read_counts, 2, read_payoffs, 8, &players) == SIGVANYOR_WRONG_PAYLOAD);
     expect("read", players == 99 && read_counts[0] == 9 && read_payoffs[0] == -1);
     bytes[111]--;
     expect("read", sigvanyor_read(bytes, 112, read_counts, 3, read_payoffs, 9, &players) == 0 && players == 2);
@@ -165,15 +182,35 @@ static void catalogue(void) {
     const size_t counts[] = {2, 2};
     const double payoffs[] = {2, 2, 0, 3, 3, 0, 1, 1}, tied[] = {2, 2, 0, 3, 3, 0, 1, 2};
     size_t number = 99;
-    bool listed = false;
+    uint8_t listed = 200;
 
-    expect("number", sigvanyor_number(counts, 2, payoffs, 7, &listed, &number) == 6 && !listed && number == 99);
-    expect("number", sigvanyor_number(counts, 2, payoffs, 8, &listed, &number) == 0 && listed && number == 71);
-    expect("number", sigvanyor_number(counts, 0, payoffs, 8, &listed, &number) == 1 && listed && number == 71);
-    expect("number", sigvanyor_number(counts, 2, tied, 8, &listed, &number) == 0 && !listed && number == 0);
-    listed = true;
+    expect("number", sigvanyor_number(counts, 2, payoffs, 7, &listed, &number) == SIGVANYOR_PAYOFF_COUNT);
+    expect("number", listed == 200 && number == 99);
+    expect("number", sigvanyor_number(counts, 2, payoffs, 8, &listed, &number) == 0 && listed == 1 && number == 71);
+    expect("number", sigvanyor_number(counts, 0, payoffs, 8, &listed, &number) == SIGVANYOR_NO_PLAYERS && listed == 1 && number == 71);
+    expect("number", sigvanyor_number(counts, 2, tied, 8, &listed, &number) == 0 && listed == 0 && number == 0);
+    listed = 200;
     number = 99;
-    expect("number", sigvanyor_number(counts, 1, payoffs, 2, &listed, &number) == 0 && !listed && number == 0);
+    expect("number", sigvanyor_number(counts, 1, payoffs, 2, &listed, &number) == 0 && listed == 0 && number == 0);
+}
+
+/* The refusals that no other trial here meets: a name is the archive's number. */
+static void refusals(void) {
+    const size_t counts[] = {2, 2}, none[] = {2, 0}, beyond[] = {0, 2};
+    const double payoffs[] = {2, 2, 0, 3, 3, 0, 1, 1};
+    size_t players, space[SIGVANYOR_MAX_PLAYERS], offset, strategies[2], number;
+    double utilities[8];
+    uint8_t bytes[116] = {0};
+
+    expect("NO_STRATEGIES", sigvanyor_from_counts(none, 2, &players, space) == SIGVANYOR_NO_STRATEGIES);
+    expect("INVALID_OPPONENT_STRATEGY",
+           sigvanyor_best_responses(counts, 2, payoffs, 8, 0, &beyond[1], 1, strategies, 2, utilities, 2, &number) ==
+               SIGVANYOR_INVALID_OPPONENT_STRATEGY);
+    expect("INVALID_STRATEGY", sigvanyor_offset(counts, 2, payoffs, 8, beyond, 2, &offset) == SIGVANYOR_INVALID_STRATEGY);
+    expect("write", sigvanyor_write(counts, 2, payoffs, 8, bytes, 116, &number) == 0 && number == 112);
+    expect("TRAILING_WORD", sigvanyor_read(bytes, 116, space, 8, utilities, 8, &players) == SIGVANYOR_TRAILING_WORD);
+    bytes[4] = 128;
+    expect("WRONG_KIND", sigvanyor_read(bytes, 112, space, 8, utilities, 8, &players) == SIGVANYOR_WRONG_KIND);
 }
 
 int main(void) {
@@ -184,28 +221,36 @@ int main(void) {
     for (int i = 0; i < 72; i++)
         payoffs[i] = i;
 
-    expect("utility_new", sigvanyor_utility_new(1.0 / 0.0, &utility) == 7 && utility == -1);
+    expect("INTERFACE", sigvanyor_interface() == SIGVANYOR_INTERFACE);
+    expect("utility_new", sigvanyor_utility_new(1.0 / 0.0, &utility) == SIGVANYOR_NON_FINITE_UTILITY && utility == -1);
     expect("utility_new", sigvanyor_utility_new(2.5, &utility) == 0 && utility == 2.5);
     expect("all_finite", sigvanyor_all_finite(payoffs, 72));
-    expect("from_counts", sigvanyor_from_counts(counts, 0, &players, space) == 1 && players == 99 && space[7] == 9);
+    expect("from_counts", sigvanyor_from_counts(counts, 0, &players, space) == SIGVANYOR_NO_PLAYERS);
+    expect("from_counts", players == 99 && space[7] == 9);
     expect("from_counts", sigvanyor_from_counts(counts, 3, &players, space) == 0 && players == 3);
     expect("from_counts", space[0] == 2 && space[1] == 3 && space[2] == 4 && space[3] == 0 && space[7] == 0);
     players = 99;
-    expect("payoff_matrix_new", sigvanyor_payoff_matrix_new(counts, 3, payoffs, 71, &players, space) == 6 && players == 99);
+    expect("payoff_matrix_new", sigvanyor_payoff_matrix_new(counts, 3, payoffs, 71, &players, space) == SIGVANYOR_PAYOFF_COUNT);
+    expect("payoff_matrix_new", players == 99);
     expect("payoff_matrix_new", sigvanyor_payoff_matrix_new(counts, 3, payoffs, 72, &players, space) == 0 && players == 3);
-    expect("offset", sigvanyor_offset(counts, 3, payoffs, 72, profile, 2, &offset) == 11 && offset == 99);
+    expect("offset", sigvanyor_offset(counts, 3, payoffs, 72, profile, 2, &offset) == SIGVANYOR_PROFILE_COUNT && offset == 99);
     expect("offset", sigvanyor_offset(counts, 3, payoffs, 72, profile, 3, &offset) == 0 && offset == 23);
-    expect("payoff", sigvanyor_payoff(counts, 3, payoffs, 72, profile, 3, 3, &utility) == 8 && utility == 2.5);
+    expect("payoff", sigvanyor_payoff(counts, 3, payoffs, 72, profile, 3, 3, &utility) == SIGVANYOR_INVALID_PLAYER);
+    expect("payoff", utility == 2.5);
     expect("payoff", sigvanyor_payoff(counts, 3, payoffs, 72, profile, 3, 2, &utility) == 0 && utility == 71);
     expect("profile_payoffs", sigvanyor_profile_payoffs(counts, 3, payoffs, 72, profile, 3, &first, &number) == 0);
     expect("profile_payoffs", first == 69 && number == 3);
+    expect("profile_payoffs", sigvanyor_profile_payoffs(counts, 3, payoffs, 72, profile, 2, &first, &number) == SIGVANYOR_PROFILE_COUNT);
+    expect("profile_payoffs", first == 69 && number == 3);
     expect("advance_profile", sigvanyor_advance_profile(counts, 3, step));
     expect("advance_profile", step[0] == 1 && step[1] == 0 && step[2] == 0 && step[3] == 7);
+    expect("advance_profile", !sigvanyor_advance_profile(counts, 0, step) && step[0] == 1 && step[3] == 7);
     solvers();
     strikes();
     candidates();
     deposits();
     catalogue();
+    refusals();
     limits();
     if (!wrong)
         printf("header: every call answers as declared\n");

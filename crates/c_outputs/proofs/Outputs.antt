@@ -14,29 +14,35 @@ use lib.Dec.{eqb}
 use lib.ListN.{length, getD, set, take, drop, length-map, length-set}
 use lib.Seq.{ext-getD, getD-set-same, getD-set-other}
 use lib.Ieee.{Float}
+use mir.Val.{boolByte}
 use Rattle.table.specs.Table.{profilePart}
 use Rattle.table.specs.Checks.{tableRefusal, profileRefusal}
 use Rattle.table.specs.Answers.{spaceOf, spaceUnless, profilePayoffs}
 use Rattle.table.specs.declared.SpaceResult.{SpaceResult}
 use Rattle.table.proofs.Offsets.{getD-map}
 use Rattle.survivors.specs.declared.Survivors.{Survivors}
-use Rattle.c_outputs.specs.Status.{output, beside, isSome, orZero, partStart, partLength, survivorsOf, byteOf, markBytes}
+use Rattle.c_outputs.specs.Status.{output, beside, someByte, orZero, partStart, partLength, survivorsOf, byteOf, markBytes}
 
 -- an answer t told into an output, where t is u
 pub told-into : {A : Type 0} (t u : Told A) (n : ℕ) (new old : A) → t ≡ u → (n ≡ status t) × (new ≡ output t old) → (n ≡ status u) × (new ≡ output u old)
 told-into t u n new old e h = rw e at h
 
+-- the same of a truth value, told as a byte
+pub truth-into : (t u : Told Bool) (n : ℕ) (new old : ℕ) → t ≡ u
+    → (n ≡ status t) × (new ≡ output (toldOf byteOf t) old) → (n ≡ status u) × (new ≡ output (toldOf byteOf u) old)
+truth-into t u n new old e h = rw e at h
+
 -- the same of a number or none, told into two outputs
-pub number-into : (t u : Told (Option ℕ)) (n : ℕ) (l l₀ : Bool) (k k₀ : ℕ) → t ≡ u
-    → (n ≡ status t) × ((l ≡ output (toldOf isSome t) l₀) × (k ≡ output (toldOf orZero t) k₀))
-    → (n ≡ status u) × ((l ≡ output (toldOf isSome u) l₀) × (k ≡ output (toldOf orZero u) k₀))
+pub number-into : (t u : Told (Option ℕ)) (n : ℕ) (l l₀ : ℕ) (k k₀ : ℕ) → t ≡ u
+    → (n ≡ status t) × ((l ≡ output (toldOf someByte t) l₀) × (k ≡ output (toldOf orZero t) k₀))
+    → (n ≡ status u) × ((l ≡ output (toldOf someByte u) l₀) × (k ≡ output (toldOf orZero u) k₀))
 number-into t u n l l₀ k k₀ e h = rw e at h
 
 -- the two outputs tell which number it is, or that there is none
-pub number-back : (o p : Option ℕ) → isSome o ≡ isSome p → orZero o ≡ orZero p → o ≡ p
+pub number-back : (o p : Option ℕ) → someByte o ≡ someByte p → orZero o ≡ orZero p → o ≡ p
 number-back none none h k = refl
-number-back none (some n) h k = let z : _≡_ {A = ℕ} 0 1 = cc in absurd (omega arith)
-number-back (some m) none h k = let z : _≡_ {A = ℕ} 0 1 = cc in absurd (omega arith)
+number-back none (some n) h k = absurd (omega arith)
+number-back (some m) none h k = absurd (omega arith)
 number-back (some m) (some n) h k = ap {B = Option ℕ} some k
 
 -- what the outputs hold where values v were told, and where a refusal was
@@ -88,15 +94,23 @@ module _ {A B : Type 0} (f : A → B) (xs : List A) (a : A) (b : B) (n : ℕ) wh
       ext-getD b out (map f xs) (m .size ∙ sym (length-map xs f ∙ e)) (λ j k.
       m .done j (omega (arith, m .size)) ∙ sym (getD-map f xs j a b (omega (arith, m .size, e))))
 
--- ---- survivors
+-- ---- a truth value as a byte
 
-byte-mark : (b : Bool) → not (eqb (byteOf b) 0) ≡ b
-byte-mark true = refl
-byte-mark false = refl
+-- the byte that the code makes of one
+pub byte-is : (b : Bool) → boolByte b ≡ byteOf b
+byte-is true = refl
+byte-is false = refl
+
+-- a byte that is not 0 says yes, and so the byte tells which it was
+pub byte-back : (b : Bool) → not (eqb (byteOf b) 0) ≡ b
+byte-back true = refl
+byte-back false = refl
+
+-- ---- survivors
 
 marks-back : (bs : List Bool) → map (λ b. not (eqb b 0)) (map byteOf bs) ≡ bs
 marks-back [] = refl
-marks-back (b ∷ bs) = rw (byte-mark b, marks-back bs)
+marks-back (b ∷ bs) = rw (byte-back b, marks-back bs)
 
 -- survivors that C was told and hands in again are the same
 pub survivors-back : (v : Survivors) → survivorsOf (v .players) (v .counts) (markBytes v) ≡ v

@@ -23,10 +23,15 @@ abbrev pub beside : {A B : Type 0} → Told A → B → B → B
 beside (values a) v old = v
 beside (refused n) v old = old
 
--- a number or none goes to C as whether there is one, and the number, 0 where there is none
-abbrev pub isSome : Option ℕ → Bool
-isSome none = false
-isSome (some n) = true
+-- a truth value goes to C as a byte: 1, or 0 for no
+abbrev pub byteOf : Bool → ℕ
+byteOf true = 1
+byteOf false = 0
+
+-- a number or none goes to C as the byte of whether there is one, and the number, 0 where there is none
+abbrev pub someByte : Option ℕ → ℕ
+someByte none = 0
+someByte (some n) = 1
 
 abbrev pub orZero : Option ℕ → ℕ
 orZero none = 0
@@ -45,10 +50,6 @@ partLength counts payoffs x = unless (tableRefusal counts payoffs then profileRe
 unfoldable pub survivorsOf : ℕ → List ℕ → List ℕ → Survivors
 survivorsOf players counts bytes = record { players = players; counts = counts; marks = map (λ b. not (eqb b 0)) bytes }
 
--- the bytes of marks: 1, or 0 for no mark
-abbrev pub byteOf : Bool → ℕ
-byteOf true = 1
-byteOf false = 0
-
+-- the bytes of marks
 abbrev pub markBytes : Survivors → List ℕ
 markBytes v = map byteOf (v .marks)

@@ -16,7 +16,7 @@ ghost use lib.Dec.{eqb};
 ghost use Rattle.refusal.specs.Told.{toldOf, toldUnit, toldUsize, toldBool, status};
 ghost use Rattle.utility.specs.Value.{toldUtility};
 ghost use Rattle.catalogue.specs.Answers.{toldNumber};
-ghost use Rattle.c_outputs.specs.Status.{output, beside, isSome, orZero, survivorsOf, byteOf, markBytes};
+ghost use Rattle.c_outputs.specs.Status.{output, beside, someByte, orZero, survivorsOf, byteOf, markBytes};
 
 // ---- an answer into its outputs
 
@@ -34,14 +34,14 @@ pub fn usize_into(answer: UsizeResult, number: &mut usize) -> u32
     }
 }
 
-// A truth value into `truth`.
-pub fn bool_into(answer: BoolResult, truth: &mut bool) -> u32
+// A truth value into `truth`, as 1 or 0.
+pub fn bool_into(answer: BoolResult, truth: &mut u8) -> u32
     ensures { λ r. ⌜ r ≡ status (toldBool answer) ⌝ }
-    ensures { λ r. ⌜ now (truth .exit) ≡ output (toldBool answer) (now (truth .entry)) ⌝ }
+    ensures { λ r. ⌜ now (truth .exit) ≡ output (toldOf byteOf (toldBool answer)) (now (truth .entry)) ⌝ }
 {
     match answer {
         BoolResult::Ok(b) => {
-            *truth = b;
+            *truth = b as u8;
             0
         }
         BoolResult::Err(e) => e.number(),
@@ -62,21 +62,22 @@ pub fn utility_into(answer: UtilityResult, utility: &mut f64) -> u32
     }
 }
 
-// Whether there is a number of the catalogue into `listed`, and the number, 0 where there is none, into `number`.
-pub fn number_into(answer: NumberResult, listed: &mut bool, number: &mut usize) -> u32
+// Whether there is a number of the catalogue into `listed`, as 1 or 0, and the number, 0 where there is none,
+// into `number`.
+pub fn number_into(answer: NumberResult, listed: &mut u8, number: &mut usize) -> u32
     ensures { λ r. ⌜ r ≡ status (toldNumber answer) ⌝ }
-    ensures { λ r. ⌜ now (listed .exit) ≡ output (toldOf isSome (toldNumber answer)) (now (listed .entry)) ⌝ }
+    ensures { λ r. ⌜ now (listed .exit) ≡ output (toldOf someByte (toldNumber answer)) (now (listed .entry)) ⌝ }
     ensures { λ r. ⌜ now (number .exit) ≡ output (toldOf orZero (toldNumber answer)) (now (number .entry)) ⌝ }
 {
     match answer {
         NumberResult::Ok(told) => {
             match told {
                 UsizeOption::Some(place) => {
-                    *listed = true;
+                    *listed = 1;
                     *number = place;
                 }
                 UsizeOption::None => {
-                    *listed = false;
+                    *listed = 0;
                     *number = 0;
                 }
             }

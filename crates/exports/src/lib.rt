@@ -32,7 +32,20 @@ ghost use Rattle.response_list.specs.Responses.{recordsAnswer, recordsWritten};
 ghost use Rattle.deposit.specs.Answers.{readAnswer, readCounts, readPayoffs, writeAnswer, writeBytes};
 ghost use Rattle.catalogue.specs.Answers.{numberAnswer};
 ghost use Rattle.candidates.specs.Checks.{incentives, verdictOf, minimax};
-ghost use Rattle.c_outputs.specs.Status.{output, beside, isSome, orZero, partStart, partLength, survivorsOf, markBytes};
+ghost use Rattle.c_outputs.specs.Status.{output, beside, someByte, orZero, partStart, partLength, byteOf, survivorsOf, markBytes};
+ghost use Rattle.exports.specs.Interface.{interface};
+
+// The number of this interface, SIGVANYOR_INTERFACE of the header. It goes up with each change of a C signature or of a
+// limit.
+pub const INTERFACE: u32 = 1;
+
+// The number of the interface that the archive was built with.
+#[no_mangle]
+pub extern "C" fn sigvanyor_interface() -> u32
+    ensures { λ r. ⌜ r ≡ interface ⌝ }
+{
+    INTERFACE
+}
 
 // `Utility::new`: the value into `utility`, or 7.
 #[no_mangle]
@@ -194,16 +207,16 @@ pub extern "C" fn sigvanyor_best_response_records(
     c_outputs::usize_into(answer, number)
 }
 
-// `is_equilibrium`: whether the profile is an equilibrium into `equilibrium`, or 1 to 7, 11, 12.
+// `is_equilibrium`: whether the profile is an equilibrium into `equilibrium`, as 1 or 0, or 1 to 7, 11, 12.
 #[no_mangle]
 pub extern "C" fn sigvanyor_is_equilibrium(
     counts: &[usize],
     payoffs: &[f64],
     profile: &[usize],
-    equilibrium: &mut bool,
+    equilibrium: &mut u8,
 ) -> u32
     ensures { λ r. ⌜ r ≡ status (isEquilibriumAnswer (now (counts .entry)) (now (payoffs .entry)) (now (profile .entry))) ⌝ }
-    ensures { λ r. ⌜ now (equilibrium .exit) ≡ output (isEquilibriumAnswer (now (counts .entry)) (now (payoffs .entry)) (now (profile .entry))) (now (equilibrium .entry)) ⌝ }
+    ensures { λ r. ⌜ now (equilibrium .exit) ≡ output (toldOf byteOf (isEquilibriumAnswer (now (counts .entry)) (now (payoffs .entry)) (now (profile .entry)))) (now (equilibrium .entry)) ⌝ }
 {
     c_outputs::bool_into(
         pure_nash::is_equilibrium(counts, payoffs, profile),
@@ -419,16 +432,17 @@ pub extern "C" fn sigvanyor_write(
     c_outputs::usize_into(answer, number)
 }
 
-// `number`: whether the table has a catalogue number into `listed`, and the number, 0 where it has none, into `number`, or 1 to 7.
+// `number`: whether the table has a catalogue number into `listed`, as 1 or 0, and the number, 0 where it has none,
+// into `number`, or 1 to 7.
 #[no_mangle]
 pub extern "C" fn sigvanyor_number(
     counts: &[usize],
     payoffs: &[f64],
-    listed: &mut bool,
+    listed: &mut u8,
     number: &mut usize,
 ) -> u32
     ensures { λ r. ⌜ r ≡ status (numberAnswer (now (counts .entry)) (now (payoffs .entry))) ⌝ }
-    ensures { λ r. ⌜ now (listed .exit) ≡ output (toldOf isSome (numberAnswer (now (counts .entry)) (now (payoffs .entry)))) (now (listed .entry)) ⌝ }
+    ensures { λ r. ⌜ now (listed .exit) ≡ output (toldOf someByte (numberAnswer (now (counts .entry)) (now (payoffs .entry)))) (now (listed .entry)) ⌝ }
     ensures { λ r. ⌜ now (number .exit) ≡ output (toldOf orZero (numberAnswer (now (counts .entry)) (now (payoffs .entry)))) (now (number .entry)) ⌝ }
 {
     c_outputs::number_into(catalogue::number(counts, payoffs), listed, number)

@@ -1,14 +1,13 @@
 -- `c_outputs::bytes_of` meets its contract. The invariant: the first i are made. Assumes nothing.
-use mathlib.Core.Path.{_≡_, refl}
-use mathlib.Core.Bool.{Bool, true, false}
+use mathlib.Core.Path.{refl}
+use mathlib.Core.Bool.{false}
 use Prim.Native.Nat.{_-_, _≤_}
 use native.Mathlib.Omega.{arith}
 use borrow.Author.Needs.{needs}
 use lib.ListN.{getD}
-use mir.Val.{boolByte}
 use Rattle.table.specs.Limits.{maxMarks}
 use Rattle.c_outputs.specs.Status.{byteOf}
-use Rattle.c_outputs.proofs.Outputs.{Made, made-more, made-all}
+use Rattle.c_outputs.proofs.Outputs.{Made, made-more, made-all, byte-is}
 use Rattle.c_outputs.proofs.bytes_of.Statement.{statement}
 use Rattle.c_outputs.proofs.bytes_of.Tie as tie
 
@@ -41,12 +40,8 @@ loop-again c =
     let l = c .before .loop in
     let marks = c .before .before .args .t1 in (
       omega arith,
-      rw (same (getD marks (l .i) false)) (made-more byteOf marks false 0 maxMarks (l .i) (l .bytes) (c .loop-test .taken) (l .inv .1)),
+      rw (byte-is (getD marks (l .i) false)) (made-more byteOf marks false 0 maxMarks (l .i) (l .bytes) (c .loop-test .taken) (l .inv .1)),
     )
-  where
-    same : (b : Bool) → boolByte b ≡ byteOf b
-    same true = refl
-    same false = refl
 
 returns : tie.Need-returns Inv-loop μ-loop
 returns c = made-all (byteOf) (c .before .before .args .t1) false 0 maxMarks (c .before .loop .i) _ (search needs) (c .loop-test .left) (c .before .loop .inv .1)

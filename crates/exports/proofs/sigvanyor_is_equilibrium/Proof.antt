@@ -1,6 +1,6 @@
 -- `exports::sigvanyor_is_equilibrium` meets its contract, by what the call told. Assumes nothing.
 use borrow.Author.Needs.{needs}
-use Rattle.c_outputs.proofs.Outputs.{told-into}
+use Rattle.c_outputs.proofs.Outputs.{truth-into}
 use Rattle.exports.proofs.sigvanyor_is_equilibrium.Statement.{statement}
 use Rattle.exports.proofs.sigvanyor_is_equilibrium.Tie as tie
 
@@ -11,7 +11,7 @@ bool-into-requires : tie.Need-bool-into-requires
 bool-into-requires c κs = search needs
 
 returns : tie.Need-returns
-returns c = told-into _ _ _ _ _ (c .before .before .is-equilibrium .ensures) (c .bool-into .ensures)
+returns c = truth-into _ _ _ _ _ (c .before .before .is-equilibrium .ensures) (c .bool-into .ensures)
 
 pub sigvanyor-is-equilibrium-spec : {M : Type 1} → statement M
 sigvanyor-is-equilibrium-spec = tie.close (tie.spec is-equilibrium-requires bool-into-requires returns)
