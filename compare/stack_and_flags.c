@@ -1,5 +1,5 @@
 /* How much stack each call of include/sigvanyor.h takes, and which floating-point flags it raises:
- * both are measured, on tables and candidates of several sizes, and held to what the header says. */
+ * both measured, on tables and candidates of several sizes, and held to what the header says. */
 #define _POSIX_C_SOURCE 200809L
 #include "sigvanyor.h"
 #include <fenv.h>
@@ -158,8 +158,8 @@ static const size_t shapes[][1 + SIGVANYOR_MAX_PLAYERS] = {
 };
 enum { SMALL = 5, SHAPES = sizeof shapes / sizeof shapes[0] };
 
-/* A table of this shape and its file, each filled by hand, so that no call is made yet but the one
- * that writes the file; and a candidate with as many rows and columns as the first two counts. */
+/* A table of this shape, its fresh survivors, made by hand, its file, whose call binds nothing, and
+ * a candidate with as many rows and columns as the first two counts. */
 static void fill(const size_t *shape) {
     players = cells = left.players = shape[0];
     for (size_t p = 0; p < SIGVANYOR_MAX_PLAYERS; p++) {
@@ -199,8 +199,8 @@ static unsigned char *stack;
 static void (*measured)(void);
 static size_t taken;
 
-/* Paints the thread's stack below its own frame, makes the call, and looks how far down the paint is
- * gone. */
+/* Paints the thread's stack below its own frame, makes the call, and looks how far down the paint
+ * is gone. */
 static void *paint_and_call(void *nothing) {
     unsigned char *const here = (unsigned char *)__builtin_frame_address(0);
     volatile unsigned char *at;
@@ -226,8 +226,8 @@ static size_t stack_of(const call *c) {
     return taken;
 }
 
-/* The same in a process that has made no such call before, where the dynamic linker may have to bind
- * what the call uses of the C library. */
+/* The same in a process that has made no such call before, where the dynamic linker may have to
+ * bind what the call uses of the C library. */
 static size_t first_stack_of(const call *c) {
     int ends[2];
     pid_t child;
@@ -306,7 +306,7 @@ static void finite_flags(void) {
                    ever[i] == (calls[i].work == ROUNDS ? FE_ALL_EXCEPT & ~FE_DIVBYZERO : 0));
 }
 
-/* The number with these bits, an infinity or a NaN, in the table, in its file and in the candidate. */
+/* The number with these bits, an infinity or a NaN, into the table, its file and the candidate. */
 static void put(uint64_t bits, int round) {
     const size_t at = random_bits() % cells, place = random_bits() % (rows * columns);
     const uint32_t parts[] = {bits >> 60, bits >> 30 & 0x3fffffff, bits & 0x3fffffff};

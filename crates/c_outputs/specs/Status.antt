@@ -28,7 +28,8 @@ abbrev pub byteOf : Bool → ℕ
 byteOf true = 1
 byteOf false = 0
 
--- a number or none goes to C as the byte of whether there is one, and the number, 0 where there is none
+-- a number or none goes to C as the byte of whether there is one, and the number, 0 where there is
+-- none
 abbrev pub someByte : Option ℕ → ℕ
 someByte none = 0
 someByte (some n) = 1

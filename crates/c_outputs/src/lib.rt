@@ -62,8 +62,8 @@ pub fn utility_into(answer: UtilityResult, utility: &mut f64) -> u32
     }
 }
 
-// Whether there is a number of the catalogue into `listed`, as 1 or 0, and the number, 0 where there is none,
-// into `number`.
+// Whether there is a number of the catalogue into `listed`, as 1 or 0, and the number, 0 where
+// there is none, into `number`.
 pub fn number_into(answer: NumberResult, listed: &mut u8, number: &mut usize) -> u32
     ensures { λ r. ⌜ r ≡ status (toldNumber answer) ⌝ }
     ensures { λ r. ⌜ now (listed .exit) ≡ output (toldOf someByte (toldNumber answer)) (now (listed .entry)) ⌝ }

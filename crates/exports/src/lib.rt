@@ -1,6 +1,7 @@
 // The library's calls under C names: include/sigvanyor.h declares them and says what each does.
-// A call answers a status, 0 or the refusal's number, and writes its values through pointers; refused, it writes nothing. The candidate
-// checks have no refusals and answer by themselves.
+// A call answers a status, 0 or the refusal's number, and writes its values through pointers;
+// refused, it writes nothing. Calls that have no refusals, as the candidate checks, answer by
+// themselves.
 // A slice is a pointer and the number of its elements.
 use candidates::Claim;
 use refusal::UnitResult;
@@ -35,8 +36,8 @@ ghost use Rattle.candidates.specs.Checks.{incentives, verdictOf, minimax};
 ghost use Rattle.c_outputs.specs.Status.{output, beside, someByte, orZero, partStart, partLength, byteOf, survivorsOf, markBytes};
 ghost use Rattle.exports.specs.Interface.{interface};
 
-// The number of this interface, SIGVANYOR_INTERFACE of the header. It goes up with each change of a C signature or of a
-// limit.
+// The number of this interface, SIGVANYOR_INTERFACE of the header. It goes up with each change of a
+// C signature or of a limit.
 pub const INTERFACE: u32 = 1;
 
 // The number of the interface that the archive was built with.
@@ -207,7 +208,8 @@ pub extern "C" fn sigvanyor_best_response_records(
     c_outputs::usize_into(answer, number)
 }
 
-// `is_equilibrium`: whether the profile is an equilibrium into `equilibrium`, as 1 or 0, or 1 to 7, 11, 12.
+// `is_equilibrium`: whether the profile is an equilibrium into `equilibrium`, as 1 or 0, or 1 to 7,
+// 11, 12.
 #[no_mangle]
 pub extern "C" fn sigvanyor_is_equilibrium(
     counts: &[usize],
@@ -432,8 +434,8 @@ pub extern "C" fn sigvanyor_write(
     c_outputs::usize_into(answer, number)
 }
 
-// `number`: whether the table has a catalogue number into `listed`, as 1 or 0, and the number, 0 where it has none,
-// into `number`, or 1 to 7.
+// `number`: whether the table has a catalogue number into `listed`, as 1 or 0, and the number, 0
+// where it has none, into `number`, or 1 to 7.
 #[no_mangle]
 pub extern "C" fn sigvanyor_number(
     counts: &[usize],
