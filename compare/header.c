@@ -194,6 +194,28 @@ static void catalogue(void) {
     expect("number", sigvanyor_number(counts, 1, payoffs, 2, &listed, &number) == 0 && listed == 0 && number == 0);
 }
 
+/* The sizes that are always room enough: where every profile is an equilibrium, where every strategy
+ * is a best response, and where all but one are dominated. */
+static void rooms(void) {
+    enum { CELLS = SIGVANYOR_MAX_CELLS, STRATEGIES = SIGVANYOR_MAX_STRATEGIES };
+    static double payoffs[CELLS], utilities[CELLS];
+    static size_t choices[CELLS], dominators[STRATEGIES];
+    static sigvanyor_best_response responses[STRATEGIES];
+    const size_t counts[] = {8, 8, 16, 16}, one[] = {STRATEGIES}, none[] = {0};
+    size_t number = 0;
+
+    expect("MAX_CELLS", sigvanyor_equilibria(counts, 4, payoffs, CELLS, choices, CELLS, utilities, CELLS, &number) == 0);
+    expect("MAX_CELLS", number == CELLS / 4);
+    expect("MAX_STRATEGIES", sigvanyor_best_responses(one, 1, payoffs, STRATEGIES, 0, none, 0, choices, STRATEGIES,
+                                                      utilities, STRATEGIES, &number) == 0 && number == STRATEGIES);
+    expect("MAX_STRATEGIES", sigvanyor_best_response_records(one, 1, payoffs, STRATEGIES, 0, none, 0, responses, STRATEGIES,
+                                                             &number) == 0 && number == STRATEGIES);
+    payoffs[0] = 1;
+    expect("MAX_STRATEGIES", sigvanyor_strictly_dominated_strategies(one, 1, payoffs, STRATEGIES, 0, choices, STRATEGIES,
+                                                                     dominators, STRATEGIES, &number) == 0);
+    expect("MAX_STRATEGIES", number == STRATEGIES - 1);
+}
+
 /* The refusals that no other trial here meets: a name is the archive's number. */
 static void refusals(void) {
     const size_t counts[] = {2, 2}, none[] = {2, 0}, beyond[] = {0, 2};
@@ -250,6 +272,7 @@ int main(void) {
     candidates();
     deposits();
     catalogue();
+    rooms();
     refusals();
     limits();
     if (!wrong)

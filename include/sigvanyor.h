@@ -255,11 +255,12 @@ uint32_t sigvanyor_surviving_equilibria(const size_t *counts, size_t counts_len,
                                         size_t *number);
 
 /* A list of strikes from the table's fresh survivors, each on what the last one left. The i-th
- * names players[i] and strategies[i]; of unequal lists the shorter length counts, and answers_len
- * and dominators_len of that length are room enough. Its answer goes into answers[i], 0 or
- * SIGVANYOR_INVALID_PLAYER, SIGVANYOR_NO_SURVIVING_STRATEGY or SIGVANYOR_NOT_DOMINATED, and its
+ * names players[i] and strategies[i]. Its answer, 0 or SIGVANYOR_INVALID_PLAYER,
+ * SIGVANYOR_NO_SURVIVING_STRATEGY or SIGVANYOR_NOT_DOMINATED, goes into answers[i], and its
  * dominator, 0 where it is refused, into dominators[i]; how many were accepted into `number`, and
- * what is left into the last three; or a refusal of the table or SIGVANYOR_OUTPUT_TOO_SHORT. */
+ * what is left into the last three; or a refusal of the table or SIGVANYOR_OUTPUT_TOO_SHORT. Of
+ * unequal lists the shorter length counts, and answers_len and dominators_len of that length are
+ * always room enough. */
 uint32_t sigvanyor_strikes(const size_t *counts, size_t counts_len, const double *payoffs, size_t payoffs_len,
                            const size_t *players, size_t players_len, const size_t *strategies, size_t strategies_len,
                            uint32_t *answers, size_t answers_len, size_t *dominators, size_t dominators_len, size_t *number,
