@@ -15,18 +15,34 @@ use Rattle.table.specs.Limits.{maxPlayers, maxCells}
 use Rattle.table.specs.Table.{cells}
 use Rattle.table.specs.Checks.{countRefusal, tableRefusal}
 use Rattle.table.specs.Outputs.{shortRefusal}
-use Rattle.words.specs.Words.{word, payloadAt, bytesOf, closed, wordsOf}
+use Rattle.words.specs.Words.{payloads, word, payloadAt, bytesOf, closed, wordsOf}
 use Rattle.words.specs.Faults.{lengthFault, dueFault, closingFault}
+
+-- ---- the kinds of words
+
+-- kind 0 opens
+abbrev pub openingKind : ℕ
+openingKind = 0
+
+-- kind 1, one per player
+abbrev pub countKind : ℕ
+countKind = 1
+
+-- kind 2, three per cell
+abbrev pub cellKind : ℕ
+cellKind = 2
 
 -- ---- from a table to bytes
 
--- kind 2, three per cell: the f64's top 4 bits, next 30, last 30
+-- a cell's three words: the f64's top 4 bits, next 30, last 30
 unfoldable pub payoffWords : Float → List ℕ
-payoffWords x = let b = toBits binary64 x in word 2 (b / 2 ^ 60) ∷ word 2 (b / 2 ^ 30 % 2 ^ 30) ∷ word 2 (b % 2 ^ 30) ∷ []
+payoffWords x =
+    let b = toBits binary64 x in
+    word cellKind (b / 2 ^ 60) ∷ word cellKind (b / payloads % payloads) ∷ word cellKind (b % payloads) ∷ []
 
--- kind 0 opens: 256 + P (edition 1); kind 1, one per player: the count; the cells in cell order; and the closing word
+-- the opening word: 256 + P (edition 1); for each player the count; the cells in cell order; and the closing word
 unfoldable pub deposit : List ℕ → List Float → List ℕ
-deposit counts payoffs = bytesOf (closed (word 0 (256 + length counts) ∷ map (word 1) counts ++ flatMap payoffWords payoffs))
+deposit counts payoffs = bytesOf (closed (word openingKind (256 + length counts) ∷ map (word countKind) counts ++ flatMap payoffWords payoffs))
 
 -- its bytes, or 1 to 7, then 13, for an output with room for so many bytes
 unfoldable pub fileOf : List ℕ → List Float → ℕ → Told (List ℕ)
@@ -50,7 +66,7 @@ module _ (ws : List ℕ) where
 
   -- the f64 of the three payloads from a place on
   unfoldable pub payoffIn : ℕ → Float
-  payoffIn place = ofBits binary64 (payloadAt ws place * 2 ^ 60 + payloadAt ws (place + 1) * 2 ^ 30 + payloadAt ws (place + 2))
+  payoffIn place = ofBits binary64 (payloadAt ws place * 2 ^ 60 + payloadAt ws (place + 1) * payloads + payloadAt ws (place + 2))
 
   -- the payoffs, in cell order
   unfoldable pub payoffsIn : List Float
@@ -61,22 +77,22 @@ module _ (ws : List ℕ) where
   -- the opening word: its payload divided by 256 isn't 1 (19), P is 0 (1), P over the limit (2)
   unfoldable pub openingFault : Refusal
   openingFault =
-      dueFault ws 0 0
+      dueFault ws 0 openingKind
       then when (not (eqb (payloadAt ws 0 / 256) 1)) WrongPayload
       then when (eqb playersIn 0) NoPlayers
       then when (ltb maxPlayers playersIn) TooManyPlayers
 
   -- player p's count word: 3 or 4
   unfoldable pub countFault : ℕ → Refusal
-  countFault p = dueFault ws (1 + p) 1 then countRefusal (payloadAt ws (1 + p))
+  countFault p = dueFault ws (1 + p) countKind then countRefusal (payloadAt ws (1 + p))
 
   -- a cell's three words, from a place on: the first payload over 15 (19), and after the third word a NaN or an infinity (7)
   unfoldable pub cellFault : ℕ → Refusal
   cellFault place =
-      dueFault ws place 2
+      dueFault ws place cellKind
       then when (ltb 15 (payloadAt ws place)) WrongPayload
-      then dueFault ws (place + 1) 2
-      then dueFault ws (place + 2) 2
+      then dueFault ws (place + 1) cellKind
+      then dueFault ws (place + 2) cellKind
       then when (not (finite (payoffIn place))) NonFiniteUtility
 
   -- the opening word, the counts, then cells over a limit (5)

@@ -24,6 +24,7 @@ use sample::first_line;
 use table::MAX_CELLS;
 use table::MAX_PLAYERS;
 use table::MAX_STRATEGIES;
+use words::PAYLOADS;
 ghost use mathlib.Core.Path.{_≡_};
 ghost use Prim.Native.Nat.{_<_};
 ghost use lib.ListN.{length};
@@ -58,9 +59,7 @@ const ACCEPTED: usize = 100;
 
 const WRONG: usize = 1000000;
 
-// How many payloads there are, and kinds.
-const PAYLOADS: u32 = 0x40000000;
-
+// How many kinds there are.
 const KINDS: u32 = 4;
 
 // The way to damage a file that cuts it; 1 to 3 change a kind, 4 to 6 a payload.

@@ -19,10 +19,13 @@ ghost use Rattle.refusal.specs.Told.{toldUnit, toldUsize, unless};
 ghost use Rattle.table.specs.Limits.{maxPlayers, maxCells};
 ghost use Rattle.table.specs.Table.{cells};
 ghost use Rattle.table.specs.Outputs.{over};
-ghost use Rattle.words.specs.Words.{payloadAt, wordsOf};
+ghost use Rattle.words.specs.Words.{payloads, payloadAt, wordsOf};
 ghost use Rattle.words.specs.Faults.{closingFault};
 ghost use Rattle.deposit.specs.Deposit.{playersIn, countsIn, payoffIn, payoffsIn, cellPlace, countFault, cellFault};
 ghost use Rattle.deposit.specs.Answers.{readAnswer, readCounts, readPayoffs};
+
+// How many payloads there are, as a part of a payoff's bits.
+const PAYLOADS: usize = words::PAYLOADS as usize;
 
 // The largest payload of a cell's first word.
 const FIRST_LARGEST: usize = 15;
@@ -70,10 +73,10 @@ fn cell_count(bytes: &[u8], players: usize) -> UsizeResult
 
 // A payoff's bits, of their three parts.
 fn joined_bits(top: usize, next: usize, last: usize) -> usize
-    requires { ⌜ (top ≤ 15) × (next < 2 ^ 30) × (last < 2 ^ 30) ⌝ }
-    ensures { λ r. ⌜ r ≡ top * 2 ^ 60 + next * 2 ^ 30 + last ⌝ }
+    requires { ⌜ (top ≤ 15) × (next < payloads) × (last < payloads) ⌝ }
+    ensures { λ r. ⌜ r ≡ top * 2 ^ 60 + next * payloads + last ⌝ }
 {
-    top * 0x1000000000000000 + next * 0x40000000 + last
+    top * 0x1000000000000000 + next * PAYLOADS + last
 }
 
 // The first fault of a cell's three words: 17, 18, 19 or 7.

@@ -19,14 +19,19 @@ ghost use lib.Ieee.{binary64, toBits};
 ghost use Rattle.refusal.specs.Told.{toldUsize};
 ghost use Rattle.utility.specs.Order.{finite};
 ghost use Rattle.table.specs.Meaning.{Shape, Finites};
-ghost use Rattle.words.specs.Words.{word};
-ghost use Rattle.deposit.specs.Deposit.{payoffWords};
+ghost use Rattle.words.specs.Words.{payloads, word};
+ghost use Rattle.deposit.specs.Deposit.{countKind, cellKind, payoffWords};
 ghost use Rattle.deposit.specs.Answers.{writeAnswer, writeBytes};
 ghost use Rattle.deposit_writer.specs.Put.{wordsPut};
 
+// How many payloads there are, as a part of a payoff's bits, and the kinds of two words of a cell.
+const PARTS: u64 = PAYLOADS as u64;
+
+const KINDS: u64 = CELL as u64 * PARTS * 0x100000001;
+
 // Puts a word at a place.
 fn put_word(bytes: &mut [u8], place: usize, kind: u32, payload: u32)
-    requires { ⌜ (kind < 4) × (payload < 2 ^ 30) × (4 * place + 4 ≤ length (now bytes)) ⌝ }
+    requires { ⌜ (kind < 4) × (payload < payloads) × (4 * place + 4 ≤ length (now bytes)) ⌝ }
     ensures { λ _. ⌜ now (bytes .exit) ≡ wordsPut (now (bytes .entry)) place (word kind payload ∷ []) ⌝ }
 {
     let word = kind * PAYLOADS + payload;
@@ -40,7 +45,7 @@ fn put_word(bytes: &mut [u8], place: usize, kind: u32, payload: u32)
 // Puts the count words.
 fn write_counts(counts: &[usize], bytes: &mut [u8])
     requires { ⌜ Shape (now counts) × (4 + length (now counts) * 4 ≤ length (now bytes)) ⌝ }
-    ensures { λ _. ⌜ now (bytes .exit) ≡ wordsPut (now (bytes .entry)) 1 (map (word 1) (now (counts .entry))) ⌝ }
+    ensures { λ _. ⌜ now (bytes .exit) ≡ wordsPut (now (bytes .entry)) 1 (map (word countKind) (now (counts .entry))) ⌝ }
 {
     let mut p = 0;
     while p < counts.len() {
@@ -53,11 +58,11 @@ fn write_counts(counts: &[usize], bytes: &mut [u8])
 // which then stores its eight bytes at once, and not one by one.
 fn pair(x: f64) -> u64
     requires { ⌜ T (finite x) ⌝ }
-    ensures { λ r. ⌜ r ≡ word 2 (toBits binary64 x / 2 ^ 30 % 2 ^ 30) * 2 ^ 32 + word 2 (toBits binary64 x % 2 ^ 30) ⌝ }
+    ensures { λ r. ⌜ r ≡ word cellKind (toBits binary64 x / payloads % payloads) * 2 ^ 32 + word cellKind (toBits binary64 x % payloads) ⌝ }
 {
     if utility::is_finite(x) {
         let bits = f64::to_bits(x);
-        0x8000000080000000 + bits / 0x40000000 % 0x40000000 * 0x100000000 + bits % 0x40000000
+        KINDS + bits / PARTS % PARTS * 0x100000000 + bits % PARTS
     } else {
         0
     }

@@ -7,7 +7,7 @@ use lib.Dec.{ltb, eqb}
 use lib.ListN.{length, getD}
 use Rattle.refusal.specs.Refusal.{Refusal, when, _then_}
 use Rattle.refusal.specs.declared.NormalFormError.the-variants.{MissingWord, WrongKind, WrongPayload, TrailingWord}
-use Rattle.words.specs.Words.{kindOf, payloadAt}
+use Rattle.words.specs.Words.{closingKind, kindOf, payloadAt}
 
 -- byte length no multiple of 4 (17)
 unfoldable pub lengthFault : List ℕ → Refusal
@@ -19,9 +19,9 @@ dueFault ws i kind =
     when (not (ltb i (length ws))) MissingWord
     then when (not (eqb (kindOf (getD ws i 0)) kind)) WrongKind
 
--- the closing word: kind 3, then its number isn't that of the i words before it (19), then a word follows it (20)
+-- the closing word: its kind, then its number isn't that of the i words before it (19), then a word follows it (20)
 unfoldable pub closingFault : List ℕ → ℕ → Refusal
 closingFault ws i =
-    dueFault ws i 3
+    dueFault ws i closingKind
     then when (not (eqb (payloadAt ws i) i)) WrongPayload
     then when (ltb (i + 1) (length ws)) TrailingWord

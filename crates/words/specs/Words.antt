@@ -7,17 +7,25 @@ use Rattle.game.specs.Finite.{below}
 
 -- ---- a word's kind and payload
 
+-- how many payloads there are
+abbrev pub payloads : ℕ
+payloads = 2 ^ 30
+
+-- the kind of a closing word
+abbrev pub closingKind : ℕ
+closingKind = 3
+
 -- the word of a kind and a payload
 unfoldable pub word : ℕ → ℕ → ℕ
-word kind payload = kind * 2 ^ 30 + payload
+word kind payload = kind * payloads + payload
 
 -- the top 2 bits of a word
 unfoldable pub kindOf : ℕ → ℕ
-kindOf w = w / 2 ^ 30
+kindOf w = w / payloads
 
 -- the other 30
 unfoldable pub payloadOf : ℕ → ℕ
-payloadOf w = w % 2 ^ 30
+payloadOf w = w % payloads
 
 -- the payload of the word that i words stand before, 0 where there is none
 abbrev pub payloadAt : List ℕ → ℕ → ℕ
@@ -33,9 +41,9 @@ wordBytes w = w / 2 ^ 24 ∷ w / 2 ^ 16 % 256 ∷ w / 2 ^ 8 % 256 ∷ w % 256 �
 unfoldable pub bytesOf : List ℕ → List ℕ
 bytesOf ws = flatMap wordBytes ws
 
--- words, and after them the closing one: kind 3, the number of words before it
+-- words, and after them the closing one: the number of words before it
 unfoldable pub closed : List ℕ → List ℕ
-closed ws = ws ++ (word 3 (length ws) ∷ [])
+closed ws = ws ++ (word closingKind (length ws) ∷ [])
 
 -- ---- from bytes to words
 
