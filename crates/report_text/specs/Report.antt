@@ -18,7 +18,12 @@ report bytes = toldReport (inputTable bytes)
 
 -- ---- its size
 
+-- The other lines than those of the lists, at their longest, with their ends: "players 8" has 10 bytes, "counts" with eight counts of two digits
+-- 31, "equilibria" with a number of four digits 16, "struck" with one of three 11, and "catalogue none" 15.
+abbrev pub otherLines : ℕ
+otherLines = 10 + 31 + 16 + 11 + 15
+
 -- the most bytes of a report: 20 for each cell, of which at most two are digits of a choice and 16 those of a payoff, 8 for each strike, and the other
 -- lines
 abbrev pub maxReportBytes : ℕ
-maxReportBytes = 20 * maxReportCells + 8 * maxMarks + 83
+maxReportBytes = 20 * maxReportCells + 8 * maxMarks + otherLines

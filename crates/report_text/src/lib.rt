@@ -18,8 +18,11 @@ ghost use Rattle.report_input.specs.Input.{maxReportCells};
 ghost use Rattle.report_table.specs.Report.{tableReport};
 ghost use Rattle.report_text.specs.Report.{report};
 
+// The bytes of the other lines than those of the lists, at their longest: players, counts, equilibria, struck, catalogue.
+const OTHER_LINES: usize = 10 + 31 + 16 + 11 + 15;
+
 // The most bytes of a report, which every report fits into: 20 for each cell, 8 for each strike, and the other lines.
-pub const MAX_REPORT_BYTES: usize = 20 * MAX_REPORT_CELLS + 8 * MAX_MARKS + 83;
+pub const MAX_REPORT_BYTES: usize = 20 * MAX_REPORT_CELLS + 8 * MAX_MARKS + OTHER_LINES;
 
 // Puts the report on a table that was read: P, and outputs that begin with its counts and its payoffs.
 fn put_read(out: &mut [u8], players: usize, counts: &[usize], payoffs: &[f64]) -> usize
