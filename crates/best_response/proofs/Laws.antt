@@ -13,7 +13,7 @@ use Rattle.game.specs.Game.{whole}
 use Rattle.game.proofs.Sorted.{lists-iff}
 use Rattle.game.proofs.Game.{whole-law}
 use Rattle.game.proofs.Solution.{bestResponses-law, best-whole}
-use Rattle.refusal.specs.Told.{refused}
+use Rattle.refusal.specs.Told.{Told, refused}
 use Rattle.utility.specs.Order.{key, rank}
 use Rattle.utility.proofs.Rank.{rank-eq}
 use Rattle.table.specs.Table.{cell, payoffAt, tableGame}
@@ -74,7 +74,7 @@ pub responses-kept : (counts : List ℕ) (payoffs : List Float) (p : ℕ) (oppon
     (over w old ≡ old) × (over (responseUtilities counts payoffs p opponents w) old′ ≡ old′)
 unfolding responseUtilities
 responses-kept counts payoffs p opponents a b e is old old′ =
-    let first = λ t. take (written t) (responses counts payoffs p opponents) in (
+    let first : Told ℕ → List ℕ = λ t. take (written t) (responses counts payoffs p opponents) in (
       refused-kept first (λ _. refl) _ e is old,
       refused-kept (λ t. responseUtilities counts payoffs p opponents (first t)) (λ _. refl) _ e is old′,
     )

@@ -17,7 +17,7 @@ use lib.Ieee.{Float}
 use mir.Val.{boolByte}
 use Rattle.table.specs.Table.{profilePart}
 use Rattle.table.specs.Checks.{tableRefusal, profileRefusal}
-use Rattle.table.specs.Answers.{spaceOf, spaceUnless, profilePayoffs}
+use Rattle.table.specs.Answers.{spaceOf, spaceUnless, profilePayoffs, partFirst}
 use Rattle.table.specs.declared.SpaceResult.{SpaceResult}
 use Rattle.table.proofs.Offsets.{getD-map}
 use Rattle.survivors.specs.declared.Survivors.{Survivors}
@@ -62,15 +62,16 @@ pub space-output : (r : Refusal) (cs : List ℕ) (a : SpaceResult) → toldUnit 
 space-output none cs a h e = (rw h, λ old. rw (h, e), λ old. rw (h, e))
 space-output (some d) cs a h e = (rw h, λ old. rw h, λ old. rw h)
 
--- the part that C is told, by its first place and its length, is the part that `profile_payoffs` hands back
+-- the part that C is told, by its first place and its length, is the part that `profile_payoffs` hands back: it starts at the same place and holds
+-- the same
 pub part-is : (counts : List ℕ) (payoffs : List Float) (x : List ℕ) (first number : ℕ)
     → values first ≡ partStart counts payoffs x → values number ≡ partLength counts payoffs x
-    → take number (drop first payoffs) ≡ profilePayoffs counts payoffs x
+    → (first ≡ partFirst counts payoffs x) × (take number (drop first payoffs) ≡ profilePayoffs counts payoffs x)
 unfolding profilePart
 part-is counts payoffs x first number h k =
     let a = told-values (tableRefusal counts payoffs then profileRefusal counts x) _ first h in
     let b = told-values (tableRefusal counts payoffs then profileRefusal counts x) _ number k in
-    rw (a .0, a .1, b .1)
+    (rw (a .0, a .1), rw (a .0, a .1, b .1))
 
 -- ---- an array of n elements that f makes of those of another
 
