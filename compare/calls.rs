@@ -5,6 +5,7 @@ use crate::cases::{self, Random};
 use crate::catalogue;
 use crate::deposit::{self, Deposits};
 use crate::document::{self, Ground, CELLS, PLAYERS, STRATEGIES};
+use crate::inputs;
 use crate::library::{self, Answer, Bits};
 use crate::report::{self, Reports};
 use crate::rust::{self, Judged};
@@ -20,6 +21,7 @@ const SHORT: (Judge, &[u32]) = (Judge::TooShort, &[13]);
 
 /// Compares every call and prints a line for each. Two threads share the calls, such that they take about as long.
 pub fn compare() {
+    inputs::watch();
     let other = std::thread::spawn(|| {
         (
             strikes::strikes(),
@@ -83,6 +85,7 @@ pub fn compare() {
         &[Reports::ACCEPTED],
         &[(Judge::Unasked, &refused)],
     );
+    inputs::report();
     println!("compare: {with_rust} cases with the Rust and {with_document} with document 01 alone, 0 differences");
 }
 

@@ -2,6 +2,7 @@
 //! guards, so that a refused call that wrote, or a call that wrote past an output, is seen.
 
 use crate::document::{self, PLAYERS, STRATEGIES};
+use crate::inputs::{self, Inputs};
 use std::cell::Cell;
 use std::fmt;
 use std::ops::Range;
@@ -717,13 +718,17 @@ fn answer_space(status: u32, players: Output<1>, counts: Output<PLAYERS>) -> Ans
     )
 }
 
-/// A call of the library: sizes, each slice as a pointer and a length, then the other arguments, then the outputs of a
-/// list.
+/// A call of the library: sizes, each slice as a pointer and a length, perhaps a player and slices
+/// after it, then the other arguments, then the outputs of a list. The slices are only read, which
+/// is looked at in some cases; survivors that are only read are compared where they are held.
 macro_rules! call {
-    ($name:ident, [$($slice:ident),*] $(, $rest:expr)*; $lists:ident) => {
+    (
+        $name:ident, [$($slice:ident),*] $($player:ident [$($after:ident),*])? $(, $rest:expr)*;
+        $lists:ident
+    ) => {
         call!(
             $name,
-            [$($slice),*]
+            [$($slice),*] $($player [$($after),*])?
             $(, $rest)*,
             $lists.first.place(),
             $lists.first.len(),
@@ -732,9 +737,20 @@ macro_rules! call {
             $lists.number.place()
         )
     };
-    ($name:ident $(($($size:expr),*))?, [$($slice:ident),*] $(, $rest:expr)*) => {
-        unsafe { $name($($($size,)*)? $($slice.as_ptr(), $slice.len(),)* $($rest),*) }
-    };
+    (
+        $name:ident $(($($size:expr),*))?,
+        [$($slice:ident),*] $($player:ident [$($after:ident),*])? $(, $rest:expr)*
+    ) => {{
+        static INPUTS: Inputs = Inputs::of(stringify!($name));
+        INPUTS.kept([$(inputs::bytes($slice),)* $($(inputs::bytes($after)),*)?], || unsafe {
+            $name(
+                $($($size,)*)?
+                $($slice.as_ptr(), $slice.len(),)*
+                $($player, $($after.as_ptr(), $after.len(),)*)?
+                $($rest),*
+            )
+        })
+    }};
 }
 
 pub fn utility_new(value: f64) -> Answer<Bits> {
@@ -841,10 +857,7 @@ pub fn best_responses(
 ) -> u32 {
     call!(
         sigvanyor_best_responses,
-        [counts, payoffs],
-        player,
-        opponents.as_ptr(),
-        opponents.len();
+        [counts, payoffs] player [opponents];
         lists
     )
 }
@@ -858,10 +871,7 @@ pub fn best_response_records(
 ) -> u32 {
     call!(
         sigvanyor_best_response_records,
-        [counts, payoffs],
-        player,
-        opponents.as_ptr(),
-        opponents.len(),
+        [counts, payoffs] player [opponents],
         records.words.place(),
         records.len(),
         records.number.place()

@@ -14,6 +14,7 @@ mod deposit;
 mod deposit_cases;
 mod differences;
 mod document;
+mod inputs;
 mod library;
 mod plain;
 mod record;

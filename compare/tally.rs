@@ -170,7 +170,7 @@ impl Tally {
 }
 
 /// Ends the run. The output stays locked, so that no other thread prints between this and the end.
-fn end(wrong: &str) -> ! {
+pub fn end(wrong: &str) -> ! {
     let mut output = std::io::stdout().lock();
     let _ = writeln!(output, "compare: {wrong}");
     std::process::exit(1)
