@@ -68,6 +68,7 @@ pub fn compare() {
     let sizes = classes(&[Ground::Sizes]);
     let shapes = classes(&[Ground::Sizes, Ground::Lengths]);
     let others: [(Judge, &[u32]); 2] = [(Judge::Outside, &sizes), (Judge::Unasked, &shapes)];
+    candidates.report_largest();
     report(candidates.gain, &classes(&Candidates::GAIN), &others);
     let verdict = classes(&Candidates::VERDICT);
     report(candidates.verdict, &[], &[(Judge::Unasked, &verdict)]);
@@ -225,7 +226,7 @@ fn spaces() -> Tally {
 }
 
 fn matrices() -> Tally {
-    let mut tally = Tally::new("PayoffMatrix::new");
+    let mut tally = Tally::new("payoff_matrix");
     let mut random = Random(4);
     for shape in cases::large_shapes() {
         for counts in cases::neighbours(&shape) {
@@ -324,7 +325,7 @@ impl Calls {
 
 fn calls() -> Calls {
     let mut calls = Calls {
-        payoff: Tally::new("PayoffMatrix::payoff"),
+        payoff: Tally::new("payoff"),
         offset: Tally::new("offset"),
         profile_payoffs: Tally::new("profile_payoffs"),
     };

@@ -81,6 +81,11 @@ impl Candidate {
         }
     }
 
+    /// Whether it is at the limit of both sizes, and the Rust judges it.
+    fn largest(&self, by: Judge) -> bool {
+        by == Judge::Rust && [self.m, self.n] == [ACTIONS; 2]
+    }
+
     fn input(&self) -> String {
         let [first, second, third] = self.lists();
         numbers("sizes", &[self.m, self.n])
@@ -98,6 +103,8 @@ pub struct Candidates {
     pub gain: Tally,
     pub verdict: Tally,
     pub minimax: Tally,
+    /// The gains and the minimax checks at the limit that the Rust judges.
+    largest: [usize; 2],
 }
 
 impl Candidates {
@@ -143,6 +150,7 @@ impl Candidates {
         let Candidate { m, n, .. } = *candidate;
         let lists = candidate.lists();
         let (by, ground, gain) = candidate.gain();
+        self.largest[0] += usize::from(candidate.largest(by));
         self.gain.compare_as(
             ground as u32,
             by,
@@ -174,6 +182,7 @@ impl Candidates {
 
     fn minimax(&mut self, candidate: &Candidate, claim: Claim) -> bool {
         let (by, ground, yes) = candidate.minimax(claim);
+        self.largest[1] += usize::from(candidate.largest(by));
         self.minimax.compare_as(
             ground as u32,
             by,
@@ -183,6 +192,15 @@ impl Candidates {
         );
         yes
     }
+
+    /// The line of the cases at the limit.
+    pub fn report_largest(&self) {
+        let [gains, claims] = self.largest;
+        println!(
+            "candidate checks at {ACTIONS} x {ACTIONS} with the Rust: \
+             {gains} gains, {claims} minimax checks"
+        );
+    }
 }
 
 pub fn candidates() -> Candidates {
@@ -190,6 +208,7 @@ pub fn candidates() -> Candidates {
         gain: Tally::by_ground("verify_correlated_equilibrium_incentives", LEAST),
         verdict: Tally::by_ground("verdict", LEAST),
         minimax: Tally::by_ground("verify_minimax_residuals", LEAST),
+        largest: [0; 2],
     };
     let mut random = Random(10);
     known(&mut candidates, &mut random);

@@ -140,6 +140,17 @@ impl Reports {
                 "report has too few of a feature",
             );
         }
+        println!(
+            "report, the rarest of these and of the causes of a refusal: {}",
+            self.rarest()
+        );
+    }
+
+    fn rarest(&self) -> usize {
+        let features = std::iter::zip(FEATURES, &self.features);
+        let times = features.flat_map(|((_, titles), times)| &times[..titles.len()]);
+        let refusals = self.report.rarest(Judge::Unasked, &Self::refused());
+        refusals.min(*times.min().unwrap())
     }
 }
 

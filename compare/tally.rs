@@ -139,13 +139,26 @@ impl Tally {
         [total(rust), document.iter().map(|cases| total(cases)).sum()]
     }
 
+    /// The fewest cases that one of these classes has of a judge.
+    pub fn rarest(&self, judge: Judge, classes: &[u32]) -> usize {
+        let cases = &self.cases[judge as usize];
+        let times = classes.iter().map(|class| cases[*class as usize]);
+        times.min().unwrap()
+    }
+
     /// The call's line; a class that a call has of a judge and too few cases met ends the run.
     pub fn report(&self, rust: &[u32], others: &[(Judge, &[u32])]) {
-        let parts: Vec<String> = std::iter::zip(&self.cases, Judge::TITLES)
-            .filter(|(cases, _)| total(*cases) > 0)
-            .map(|(cases, title)| format!("{} {title}{}", total(cases), self.classes_of(cases)))
-            .collect();
-        println!("{}: {}", self.name, parts.join("; "));
+        let titled = std::iter::zip(&self.cases, Judge::TITLES);
+        let met = titled.filter(|(cases, _)| total(*cases) > 0);
+        let parts =
+            met.map(|(cases, title)| format!("{} {title}{}", total(cases), self.classes_of(cases)));
+        let parts: Vec<String> = parts.collect();
+        let [with_rust, with_document] = self.cases();
+        println!(
+            "{}: {with_rust} cases with the Rust and {with_document} with document 01 alone: {}",
+            self.name,
+            parts.join("; ")
+        );
         for (judge, expected) in others.iter().chain(&[(Judge::Rust, rust)]) {
             let cases = &self.cases[*judge as usize];
             let few = |class: &&u32| cases[**class as usize] < self.least;
