@@ -1,4 +1,5 @@
-//! Times of both sides from one driver: each the best of many runs, taken in turns.
+//! The times of both sides in one run: each the least of many, taken in turns. A line for each is
+//! handed to `bench_tables`: its part and its names, then what was measured.
 
 use crate::candidate_cases;
 use crate::cases::{self, Random};
@@ -8,6 +9,7 @@ use crate::library::{
     self, Answer, Bits, Claim, Entry, File, Held, Listing, Lists, Records, StrikeLists,
 };
 use crate::plain;
+use crate::report_bench;
 use crate::rust;
 use crate::survivors::{self, Game, Left};
 use std::hint::black_box;
@@ -18,48 +20,69 @@ const TIME: Duration = Duration::from_millis(800);
 /// The same for an elimination, of which some take long.
 const ELIMINATION: Duration = Duration::from_millis(2_500);
 
-pub fn bench() {
-    println!(
-        "{:<56} {:>12} {:>12} {:>14}",
-        "call", "library, ns", "Rust, ns", "Rust / library"
-    );
+/// The shapes of tables; eliminations leave the first one out.
+const SHAPES: [&[usize]; 6] = [
+    &[2, 2],
+    &[STRATEGIES; 2],
+    &[8, 8, 16, 16],
+    &[16, 16, 16],
+    &[4; 6],
+    &[2; PLAYERS],
+];
+
+/// The parts of a run, in the order in which they run.
+pub const PARTS: [(&str, fn()); 7] = [
+    ("checks", checks),
+    ("solvers", every_solver),
+    ("elimination", eliminations),
+    ("candidates", candidates),
+    ("deposits", deposits),
+    ("catalogue", catalogue),
+    ("report", reports),
+];
+
+/// The part of this name, or all.
+pub fn run(name: &str) {
+    for (part, run) in PARTS {
+        if name == part || name == "all" {
+            run();
+        }
+    }
+}
+
+/// Hands a line on.
+fn tell(names: &[&str], measured: &[f64]) {
+    let measured: Vec<String> = measured.iter().map(f64::to_string).collect();
+    println!("{}\t{}", names.join("\t"), measured.join(" "));
+}
+
+/// As many payoffs of random bits as the largest table has.
+fn payoffs() -> Vec<f64> {
     let mut random = Random(7);
-    let mut payoffs: Vec<f64> = (0..CELLS).map(|_| random.finite()).collect();
-    for length in [64, 1_024, 8_192, CELLS] {
-        finite(&format!("all_finite, {length}"), &payoffs[..length]);
+    (0..CELLS).map(|_| random.finite()).collect()
+}
+
+fn checks() {
+    let mut payoffs = payoffs();
+    for (length, name) in [
+        (64, "64 values"),
+        (1_024, "1,024"),
+        (8_192, "8,192"),
+        (CELLS, "65,536"),
+    ] {
+        finite(name, &payoffs[..length]);
     }
     let kept = std::mem::replace(&mut payoffs[CELLS / 2], f64::NAN);
-    finite(
-        &format!("all_finite, {CELLS}, a NaN in the middle"),
-        &payoffs,
-    );
+    finite("65,536 with a NaN in the middle", &payoffs);
     payoffs[CELLS / 2] = kept;
-    matrix(&[STRATEGIES; 2], &payoffs);
-    matrix(&[8, 8, 16, 16], &payoffs);
-    matrix(&[2; PLAYERS], &payoffs);
-    let shapes: [&[usize]; 6] = [
-        &[2, 2],
-        &[STRATEGIES; 2],
-        &[8, 8, 16, 16],
-        &[16, 16, 16],
-        &[4; 6],
-        &[2; PLAYERS],
-    ];
-    for counts in shapes {
-        let dominated = cases::own_choices(counts);
-        solvers("random", counts, &payoffs[..dominated.len()]);
-        solvers("constant", counts, &vec![1.0; dominated.len()]);
-        solvers("dominated", counts, &dominated);
+    for counts in [SHAPES[1], SHAPES[2], SHAPES[5]] {
+        matrix(counts, &payoffs);
     }
-    candidates(&mut random);
-    eliminations(&shapes[1..], &payoffs);
-    deposits(&[8, 8, 16, 16], &payoffs);
-    catalogue();
 }
 
 fn finite(name: &str, payoffs: &[f64]) {
     row(
-        name,
+        &["checks", &format!("`all_finite`, {name}")],
         || library::all_finite(black_box(payoffs)),
         || black_box(payoffs).iter().all(|payoff| payoff.is_finite()),
     );
@@ -67,22 +90,45 @@ fn finite(name: &str, payoffs: &[f64]) {
 
 /// From raw slices to the checked table; the Rust's holds a copy, which is dropped.
 fn matrix(counts: &[usize], payoffs: &[f64]) {
-    let payoffs = &payoffs[..counts.len() * counts.iter().product::<usize>()];
+    let payoffs = &payoffs[..cells(counts)];
     row(
-        &format!("payoff_matrix, {}", shape(counts)),
+        &["checks", &format!("`payoff_matrix`, {}", shape(counts))],
         || library::payoff_matrix_new(black_box(counts), black_box(payoffs)),
         || rust::table(black_box(counts), black_box(payoffs)),
     );
 }
 
-fn shape(counts: &[usize]) -> String {
-    let names: Vec<String> = counts.iter().map(usize::to_string).collect();
-    names.join("x")
+fn cells(counts: &[usize]) -> usize {
+    counts.len() * counts.iter().product::<usize>()
+}
+
+/// The counts, by a power where there are many and all are the same.
+pub fn shape(counts: &[usize]) -> String {
+    let [first, rest @ ..] = counts else {
+        return String::new();
+    };
+    if rest.len() > 3 && rest.iter().all(|count| count == first) {
+        return format!("{first}^{}", counts.len());
+    }
+    let counts: Vec<String> = counts.iter().map(usize::to_string).collect();
+    counts.join(" × ")
+}
+
+/// The solvers on tables of each shape.
+fn every_solver() {
+    let payoffs = payoffs();
+    for counts in SHAPES {
+        let dominated = cases::own_choices(counts);
+        solvers("random", counts, &payoffs[..dominated.len()]);
+        solvers("constant", counts, &vec![1.0; dominated.len()]);
+        solvers("dominated", counts, &dominated);
+    }
 }
 
 /// From raw slices to the answer: the library's outputs are there beforehand, the Rust's table and answer are dropped.
 fn solvers(kind: &str, counts: &[usize], payoffs: &[f64]) {
-    let name = |call: &str| format!("{call}, {}, {kind}", shape(counts));
+    let shape = shape(counts);
+    let names = |call| ["solvers", &shape, kind, call];
     let input = || (black_box(counts), black_box(payoffs));
     let table = || {
         let (counts, payoffs) = input();
@@ -90,7 +136,7 @@ fn solvers(kind: &str, counts: &[usize], payoffs: &[f64]) {
     };
     let mut lists = Lists::fresh([payoffs.len(); 2]);
     row(
-        &name("equilibria"),
+        &names("`equilibria`"),
         || {
             let (counts, payoffs) = input();
             library::equilibria(counts, payoffs, &mut lists)
@@ -98,16 +144,19 @@ fn solvers(kind: &str, counts: &[usize], payoffs: &[f64]) {
         || table().map(|matrix| rust::equilibria(&matrix)),
     );
     row(
-        &name("count_equilibria"),
+        &names("`count_equilibria`"),
         || {
             let (counts, payoffs) = input();
             library::count_equilibria(counts, payoffs)
         },
         || table().map(|matrix| rust::equilibria(&matrix).len()),
     );
-    for (place, player) in [("first", 0), ("last", counts.len() - 1)] {
+    for (call, player) in [
+        ("dominance, first player", 0),
+        ("dominance, last player", counts.len() - 1),
+    ] {
         row(
-            &name(&format!("dominance, {place} player")),
+            &names(call),
             || {
                 let (counts, payoffs) = input();
                 library::strictly_dominated_strategies(counts, payoffs, player, &mut lists)
@@ -117,7 +166,7 @@ fn solvers(kind: &str, counts: &[usize], payoffs: &[f64]) {
     }
     let opponents = vec![0; counts.len() - 1];
     row(
-        &name("best_responses, first player"),
+        &names("`best_responses`, first player"),
         || {
             let (counts, payoffs) = input();
             library::best_responses(counts, payoffs, 0, &opponents, &mut lists)
@@ -126,7 +175,7 @@ fn solvers(kind: &str, counts: &[usize], payoffs: &[f64]) {
     );
     let mut records = Records::fresh(STRATEGIES);
     row(
-        &name("best_response_records, first player"),
+        &names("as records"),
         || {
             let (counts, payoffs) = input();
             library::best_response_records(counts, payoffs, 0, &opponents, &mut records)
@@ -135,30 +184,45 @@ fn solvers(kind: &str, counts: &[usize], payoffs: &[f64]) {
     );
 }
 
-/// The candidate checks at their limit. Payoffs are from 0 up to 1, so that every expectation is within the claim.
-fn candidates(random: &mut Random) {
+/// The candidate checks at their limit. Payoffs are from 0 up to 1, so that every expectation is
+/// within the claim.
+fn candidates() {
     let n = ACTIONS;
+    let mut random = Random(16);
     let mut table = || -> Vec<f64> { (0..n * n).map(|_| random.unit()).collect() };
     let (mut u1, u2) = (table(), table());
-    let weights = candidate_cases::distribution(random, n * n);
-    gain("random", [&u1, &u2, &weights]);
-    gain("zero weights", [&u1, &u2, &vec![0.0; n * n]]);
-    let [p1, p2] = [(); 2].map(|()| candidate_cases::distribution(random, n));
-    minimax("passes", [&u1, &p1, &p2]);
-    let last = u1[n * n - n..].to_vec();
+    let weights = candidate_cases::distribution(&mut random, n * n);
+    gain(
+        "`verify_correlated_equilibrium_incentives`, random payoffs, \
+         weights that are a distribution",
+        [&u1, &u2, &weights],
+    );
+    let zeros = vec![0.0; n * n];
+    gain("the same payoffs, all weights 0", [&u1, &u2, &zeros]);
+    let kept = [u1[0], u1[n]];
+    [u1[0], u1[n]] = [-f64::MAX, f64::MAX];
+    gain(
+        "the same weights, two payoffs changed so that the first gain is infinite",
+        [&u1, &u2, &weights],
+    );
+    [u1[0], u1[n]] = kept;
+    let [p1, p2] = [(); 2].map(|()| candidate_cases::distribution(&mut random, n));
+    minimax(
+        "`verify_minimax_residuals`, random payoffs and distributions, a claim that holds",
+        [&u1, &p1, &p2],
+    );
     u1[n * n - n..].fill(8.0);
-    minimax("fails at the last row", [&u1, &p1, &p2]);
-    u1[n * n - n..].copy_from_slice(&last);
-    u1[0] = -f64::MAX;
-    u1[n] = f64::MAX;
-    gain("the first is infinite", [&u1, &u2, &weights]);
+    minimax(
+        "the same, a claim that the last row denies",
+        [&u1, &p1, &p2],
+    );
 }
 
 /// The Rust's rows are there beforehand.
-fn gain(kind: &str, lists: [&[f64]; 3]) {
+fn gain(name: &str, lists: [&[f64]; 3]) {
     let [u1, u2, weights] = lists.map(|list| rust::rows(list, ACTIONS));
     row(
-        &format!("gain, {}, {kind}", shape(&[ACTIONS; 2])),
+        &["candidates", name],
         || {
             let lists = black_box(lists);
             library::verify_correlated_equilibrium_incentives(ACTIONS, ACTIONS, lists)
@@ -168,7 +232,7 @@ fn gain(kind: &str, lists: [&[f64]; 3]) {
 }
 
 /// The Rust's rows and its record are there beforehand.
-fn minimax(kind: &str, lists: [&[f64]; 3]) {
+fn minimax(name: &str, lists: [&[f64]; 3]) {
     let claim = Claim {
         value: 0.5,
         tolerance: 1.0,
@@ -176,7 +240,7 @@ fn minimax(kind: &str, lists: [&[f64]; 3]) {
     let payoffs = rust::rows(lists[0], ACTIONS);
     let record = rust::record(lists[1], lists[2], claim.value);
     row(
-        &format!("minimax, {}, {kind}", shape(&[ACTIONS; 2])),
+        &["candidates", name],
         || {
             let (lists, claim) = black_box((lists, claim));
             library::verify_minimax_residuals(ACTIONS, ACTIONS, lists, claim)
@@ -191,95 +255,48 @@ fn minimax(kind: &str, lists: [&[f64]; 3]) {
     );
 }
 
-/// Full eliminations: sweeps of strikes, players then strategies ascending, until one strikes nothing.
-fn eliminations(shapes: &[&[usize]], payoffs: &[f64]) {
-    println!(
-        "\n{:<28} {:>6} {:>8} {:>14} {:>14} {:>14} {:>14} {:>12} {:>7} {:>9}",
-        "elimination",
-        "calls",
-        "accepted",
-        "strikes, ns",
-        "one list, ns",
-        "Rust, ns",
-        "Rust / strikes",
-        "Rust / list",
-        "table",
-        "survivors"
-    );
-    let checks: Vec<Checks> = shapes
-        .iter()
-        .map(|counts| Checks::new(counts, payoffs))
-        .collect();
-    for (counts, checks) in std::iter::zip(shapes, &checks) {
+/// Full eliminations: sweeps of strikes, players then strategies ascending, until one strikes
+/// nothing; and what each single strike checks.
+fn eliminations() {
+    let payoffs = payoffs();
+    for counts in &SHAPES[1..] {
+        strike_checks(counts, &payoffs[..cells(counts)]);
         let dominated = cases::own_choices(counts);
-        elimination("random", counts, &payoffs[..dominated.len()], checks);
-        elimination("constant", counts, &vec![1.0; dominated.len()], checks);
-        elimination("dominated", counts, &dominated, checks);
-        elimination("chain", counts, &cases::chain(counts), checks);
-    }
-    println!(
-        "\n{:<28} {:>14} {:>14} {:>14}",
-        "what each strike checks", "table, ns", "taken over, ns", "foreign, ns"
-    );
-    for (counts, checks) in std::iter::zip(shapes, &checks) {
-        let Checks {
-            table,
-            taken,
-            foreign,
-        } = checks;
-        println!(
-            "{:<28} {table:>14.1} {taken:>14.1} {foreign:>14.1}",
-            shape(counts)
-        );
+        elimination("random", counts, &payoffs[..dominated.len()]);
+        elimination("constant", counts, &vec![1.0; dominated.len()]);
+        elimination("dominated", counts, &dominated);
+        elimination("chain", counts, &cases::chain(counts));
     }
 }
 
-/// What a strike spends before it looks at its strategy, in nanoseconds: on the table, on taking over the survivors'
-/// bytes, and on whether they are foreign.
-struct Checks {
-    table: f64,
-    taken: f64,
-    foreign: f64,
+/// What a strike spends before it looks at its strategy: the check of the table is that of
+/// `payoff_matrix_new`; a strike refused by 16 for another P takes the survivors over besides, and
+/// one refused by 8 goes through all their marks too.
+fn strike_checks(counts: &[usize], payoffs: &[f64]) {
+    let input = || (black_box(counts), black_box(payoffs));
+    let fresh = survivors::record(counts, &survivors::all(counts));
+    let mut other = fresh.clone();
+    other.players += 1;
+    let [mut fresh, mut other] = [Held::of(&fresh), Held::of(&other)];
+    let refused = |held: &mut Held, status: u32| {
+        let (counts, payoffs) = input();
+        let answer = library::strike_on(counts, payoffs, held, usize::MAX, 0);
+        assert_eq!(answer, status);
+    };
+    let mut table = || {
+        let (counts, payoffs) = input();
+        library::payoff_matrix_new(counts, payoffs)
+    };
+    let timed: [Timed; 3] = [
+        &mut |calls| time(&mut table, calls),
+        &mut |calls| time(&mut || refused(&mut other, 16), calls),
+        &mut |calls| time(&mut || refused(&mut fresh, 8), calls),
+    ];
+    tell(&["strike", &shape(counts)], &least(timed, TIME));
 }
 
-impl Checks {
-    /// The table's is that of `payoff_matrix_new`; a strike refused by 16 for another P takes the survivors over
-    /// besides, and one refused by 8 goes through all their marks too.
-    fn new(counts: &[usize], payoffs: &[f64]) -> Self {
-        let payoffs = &payoffs[..counts.len() * counts.iter().product::<usize>()];
-        let input = || (black_box(counts), black_box(payoffs));
-        let fresh = survivors::record(counts, &survivors::all(counts));
-        let mut other = fresh.clone();
-        other.players += 1;
-        let [mut fresh, mut other] = [Held::of(&fresh), Held::of(&other)];
-        let refused = |held: &mut Held, status: u32| {
-            let (counts, payoffs) = input();
-            assert_eq!(
-                library::strike_on(counts, payoffs, held, usize::MAX, 0),
-                status
-            );
-        };
-        let mut table = || {
-            let (counts, payoffs) = input();
-            library::payoff_matrix_new(counts, payoffs)
-        };
-        let timed: [Timed; 3] = [
-            &mut |calls| time(&mut table, calls),
-            &mut |calls| time(&mut || refused(&mut other, 16), calls),
-            &mut |calls| time(&mut || refused(&mut fresh, 8), calls),
-        ];
-        let [table, another, player] = least(timed, TIME);
-        Self {
-            table,
-            taken: another - table,
-            foreign: player - another,
-        }
-    }
-}
-
-/// One elimination by single strikes, by one list of the same strikes, and by the Rust; and what of the first goes to
-/// checks, of the table and of the survivors.
-fn elimination(kind: &str, counts: &[usize], payoffs: &[f64], checks: &Checks) {
+/// One elimination by single strikes, by one list of the same strikes, and by the Rust.
+fn elimination(kind: &str, counts: &[usize], payoffs: &[f64]) {
     let input = || (black_box(counts), black_box(payoffs));
     let mut calls = [Vec::new(), Vec::new()];
     let (held, accepted) = by_strikes(counts, payoffs, |player, strategy| {
@@ -313,15 +330,9 @@ fn elimination(kind: &str, counts: &[usize], payoffs: &[f64], checks: &Checks) {
         &mut |calls| time(&mut rust, calls),
     ];
     let [strikes, list, rust] = least(timed, ELIMINATION);
-    let share = |check: f64| 100.0 * check * number as f64 / strikes;
-    println!(
-        "{:<28} {number:>6} {accepted:>8} {strikes:>14.0} {list:>14.0} {rust:>14.0} \
-         {:>14.2} {:>12.2} {:>6.0}% {:>8.0}%",
-        format!("{}, {kind}", shape(counts)),
-        rust / strikes,
-        rust / list,
-        share(checks.table),
-        share(checks.taken + checks.foreign)
+    tell(
+        &["elimination", &shape(counts), kind],
+        &[number as f64, accepted as f64, strikes, list, rust],
     );
 }
 
@@ -371,18 +382,10 @@ fn by_rust(counts: &[usize], payoffs: &[f64]) -> Left {
     }
 }
 
-/// A table's file, written and read; beside the library stands plain Rust. The outputs are there beforehand.
-fn deposits(counts: &[usize], payoffs: &[f64]) {
-    println!(
-        "\n{:<28} {:>8} {:>12} {:>12} {:>14} {:>14} {:>14}",
-        "deposit file",
-        "bytes",
-        "library, ns",
-        "Rust, ns",
-        "Rust / library",
-        "library, MB/s",
-        "Rust, MB/s"
-    );
+/// The largest table's file, read and written; beside the library stands plain Rust. The outputs
+/// are there beforehand.
+fn deposits() {
+    let (counts, payoffs) = (SHAPES[2], &payoffs()[..]);
     let mut bytes = vec![0; 4 * (2 + counts.len() + 3 * payoffs.len())];
     let mut file = File::fresh(bytes.len());
     let table = || (black_box(counts), black_box(payoffs));
@@ -398,7 +401,7 @@ fn deposits(counts: &[usize], payoffs: &[f64]) {
     );
     let written = file.answer(0);
     assert!(written == Answer::Accepted(bytes.clone()), "two files");
-    speeds("write", counts, bytes.len(), times);
+    speeds("`write`", bytes.len(), times);
     let mut lists = Lists::fresh([counts.len(), payoffs.len()]);
     let mut read = (vec![0; counts.len()], vec![0.0; payoffs.len()]);
     let times = best(
@@ -412,26 +415,16 @@ fn deposits(counts: &[usize], payoffs: &[f64]) {
         second: read.1.into_iter().map(Bits::of).collect(),
     };
     assert!(table == Answer::Accepted(plain), "two tables");
-    speeds("read", counts, bytes.len(), times);
+    speeds("`read`", bytes.len(), times);
 }
 
-fn speeds(call: &str, counts: &[usize], bytes: usize, (library, rust): (f64, f64)) {
-    let speed = |time: f64| 1_000.0 * bytes as f64 / time;
-    println!(
-        "{:<28} {bytes:>8} {library:>12.0} {rust:>12.0} {:>14.2} {:>14.0} {:>14.0}",
-        format!("{call}, {}", shape(counts)),
-        rust / library,
-        speed(library),
-        speed(rust)
-    );
+fn speeds(call: &str, bytes: usize, (library, rust): (f64, f64)) {
+    tell(&["deposits", call], &[library, rust, bytes as f64]);
 }
 
-/// A table's number; beside the library stands plain Rust. The outputs and the Rust's keys are there beforehand.
+/// A table's number; beside the library stands plain Rust. The outputs and the Rust's keys are
+/// there beforehand.
 fn catalogue() {
-    println!(
-        "\n{:<56} {:>12} {:>12} {:>14}",
-        "catalogue", "library, ns", "Rust, ns", "Rust / library"
-    );
     let keys = catalogue::least_keys().into_iter();
     let keys: Vec<u16> = keys.map(|key| key as u16).collect();
     let keys = keys.try_into().unwrap();
@@ -446,7 +439,7 @@ fn catalogue() {
             plain::number(black_box(&keys), counts, payoffs)
         };
         row(
-            &format!("number, {}, {kind}", shape(&COUNTS)),
+            &["catalogue", &format!("`number`, {kind}")],
             || {
                 let (counts, payoffs) = table();
                 library::number(counts, payoffs, &mut entry)
@@ -459,12 +452,16 @@ fn catalogue() {
     }
 }
 
-fn row<A, B>(name: &str, library: impl FnMut() -> A, rust: impl FnMut() -> B) {
+/// The report program on some of the deposits that are kept.
+fn reports() {
+    for name in report_bench::DEPOSITS {
+        tell(&["report", name], &[report_bench::milliseconds(name)]);
+    }
+}
+
+fn row<A, B>(names: &[&str], library: impl FnMut() -> A, rust: impl FnMut() -> B) {
     let (library, rust) = best(library, rust);
-    println!(
-        "{name:<56} {library:>12.1} {rust:>12.1} {:>14.2}",
-        rust / library
-    );
+    tell(names, &[library, rust]);
 }
 
 /// The least time of one call of each, in nanoseconds.

@@ -1,8 +1,10 @@
 //! The library beside the Rust that it was ported from: every call of both on the same inputs, by bits.
-//! Words: none compares, `bench` times, `record FILE` writes the Rust's answers to a sample of inputs, and
+//! Words: none compares, `bench RUNS PART` prints the times of so many runs of a part or of `all`,
+//! each made by `bench-run PART`; `record FILE` writes the Rust's answers to a sample of inputs, and
 //! `record-candidates FILE` those of the candidate checks.
 
 mod bench;
+mod bench_tables;
 mod calls;
 mod candidate_cases;
 mod candidate_record;
@@ -19,6 +21,7 @@ mod library;
 mod plain;
 mod record;
 mod report;
+mod report_bench;
 mod report_cases;
 mod rust;
 mod solvers;
@@ -54,11 +57,12 @@ fn main() {
             differences::differences();
             calls::compare();
         }
-        ["bench"] => bench::bench(),
+        ["bench", runs, part] => bench_tables::bench(runs, part),
+        ["bench-run", part] => bench::run(part),
         ["record", file] => record::record(file),
         ["record-candidates", file] => candidate_record::record(file),
         _ => {
-            eprintln!("usage: compare [bench | record FILE | record-candidates FILE]");
+            eprintln!("usage: compare [bench RUNS PART | record FILE | record-candidates FILE]");
             std::process::exit(2);
         }
     }

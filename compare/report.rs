@@ -16,7 +16,7 @@ use std::process::{Command, Stdio};
 use std::time::Duration;
 
 /// The program, from the root of the repository.
-const PROGRAM: &str = "target/bin/report";
+pub const PROGRAM: &str = "target/bin/report";
 
 /// The most bytes and the most cells of a deposit that is reported.
 pub const BYTES: usize = 24_616;
@@ -155,7 +155,7 @@ impl Reports {
 }
 
 /// The table of a deposit, or the class of its refusal.
-fn read(bytes: &[u8]) -> Result<Listing<Bits>, u32> {
+pub fn read(bytes: &[u8]) -> Result<Listing<Bits>, u32> {
     if bytes.len() > BYTES {
         return Err(MANY_BYTES);
     }
@@ -164,7 +164,7 @@ fn read(bytes: &[u8]) -> Result<Listing<Bits>, u32> {
 
 /// The strikes that are accepted, players then strategies ascending, sweep after sweep, until a sweep strikes nothing:
 /// player, strategy and dominator of each, and the number of sweeps, the last one too.
-fn struck(table: &Table) -> (Vec<[usize; 3]>, usize) {
+pub fn struck(table: &Table) -> (Vec<[usize; 3]>, usize) {
     let mut state = table.fresh();
     let mut struck = Vec::new();
     let mut sweeps = 0;

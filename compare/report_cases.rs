@@ -25,8 +25,8 @@ catalogue 71
 ";
 
 /// The folder of the reports that the repository keeps, and where else their deposits stand.
-const KEPT: &str = "tests/reports";
-const EXAMPLES: &str = "examples";
+pub const KEPT: &str = "tests/reports";
+pub const EXAMPLES: &str = "examples";
 
 pub fn run(reports: &mut Reports) {
     let mut random = Random(14);
