@@ -39,25 +39,24 @@ impl Inputs {
         }
     }
 
-    /// Makes the call, which reads these slices.
-    #[inline(always)]
-    pub fn kept<T, const N: usize>(
-        &'static self,
-        slices: [&[u8]; N],
-        call: impl FnOnce() -> T,
-    ) -> T {
-        if N == 0 || !WATCHED.load(Relaxed) || !turn() {
-            return call();
-        }
-        copy(&slices);
-        let answer = call();
-        self.compare(&slices);
-        answer
+    /// Whether this is a case that is looked at; then the slices are copied.
+    #[cold]
+    #[inline(never)]
+    pub fn copy(&self, slices: &[&[u8]]) -> bool {
+        STATE.with_borrow_mut(|(random, copies)| {
+            let looked_at = !slices.is_empty() && random.below(SHARE) == 0;
+            if looked_at {
+                copies.clear();
+                slices.iter().for_each(|slice| copies.extend(*slice));
+            }
+            looked_at
+        })
     }
 
     /// Ends the run where a slice is no longer what was copied.
+    #[cold]
     #[inline(never)]
-    fn compare(&'static self, slices: &[&[u8]]) {
+    pub fn compare(&'static self, slices: &[&[u8]]) {
         STATE.with_borrow(|(_, copies)| {
             let mut copies = &copies[..];
             for (place, slice) in black_box(slices).iter().enumerate() {
@@ -74,22 +73,14 @@ impl Inputs {
     }
 }
 
-/// Whether this case is looked at.
-fn turn() -> bool {
-    STATE.with_borrow_mut(|(random, _)| random.below(SHARE) == 0)
-}
-
-#[inline(never)]
-fn copy(slices: &[&[u8]]) {
-    STATE.with_borrow_mut(|(_, copies)| {
-        copies.clear();
-        slices.iter().for_each(|slice| copies.extend(*slice));
-    });
-}
-
 /// From here on inputs are looked at.
 pub fn watch() {
     WATCHED.store(true, Relaxed);
+}
+
+#[inline(always)]
+pub fn watched() -> bool {
+    WATCHED.load(Relaxed)
 }
 
 /// The line of the cases that were looked at; a call with too few of them ends the run.

@@ -742,14 +742,20 @@ macro_rules! call {
         [$($slice:ident),*] $($player:ident [$($after:ident),*])? $(, $rest:expr)*
     ) => {{
         static INPUTS: Inputs = Inputs::of(stringify!($name));
-        INPUTS.kept([$(inputs::bytes($slice),)* $($(inputs::bytes($after)),*)?], || unsafe {
+        let copied = inputs::watched()
+            && INPUTS.copy(&[$(inputs::bytes($slice),)* $($(inputs::bytes($after)),*)?]);
+        let answer = unsafe {
             $name(
                 $($($size,)*)?
                 $($slice.as_ptr(), $slice.len(),)*
                 $($player, $($after.as_ptr(), $after.len(),)*)?
                 $($rest),*
             )
-        })
+        };
+        if copied {
+            INPUTS.compare(&[$(inputs::bytes($slice),)* $($(inputs::bytes($after)),*)?]);
+        }
+        answer
     }};
 }
 

@@ -1,5 +1,5 @@
-//! Plain Rust, for the times: a reader and a writer of deposit files, each a pass that checks and one that writes, and a
-//! table's catalogue number.
+//! Plain Rust, for the times: the finite check of a slice; a reader and a writer of deposit files,
+//! each a pass that checks and one that writes; and a table's catalogue number.
 
 use crate::catalogue::{COUNTS, NUMBERS};
 use crate::deposit::{CELL, CLOSING, COUNT, OPENING, PAYLOADS};
@@ -48,6 +48,13 @@ fn check_count(count: usize) -> Result<(), u32> {
         1..=STRATEGIES => Ok(()),
         _ => Err(4),
     }
+}
+
+/// Whether all values are finite, up to the first that isn't. It is compiled by itself, so that its
+/// loop is the same wherever it is called.
+#[inline(never)]
+pub fn all_finite(values: &[f64]) -> bool {
+    values.iter().all(|value| value.is_finite())
 }
 
 #[inline(never)]
