@@ -1,7 +1,7 @@
 //! The library beside the Rust that it was ported from: every call of both on the same inputs, by bits.
 //! Words: none compares, `bench RUNS PART` prints the times of so many runs of a part or of `all`,
-//! each made by `bench-run PART`; `record FILE` writes the Rust's answers to a sample of inputs, and
-//! `record-candidates FILE` those of the candidate checks.
+//! each made by `bench-run PART`; `record FILE` writes the Rust's answers to a sample of inputs,
+//! and `record-candidates FILE` those of the candidate checks.
 
 mod bench;
 mod bench_tables;
