@@ -112,6 +112,7 @@ pub fn bench(runs: &str, part: &str) {
     pairs("checks", &of("checks"));
     solvers(&of("solvers"));
     elimination(&of("elimination"), &of("strike"));
+    strike_checks(&of("strike"));
     pairs("candidate checks, 64 × 64", &of("candidates"));
     deposits(&of("deposits"));
     pairs("catalogue", &of("catalogue"));
@@ -268,7 +269,7 @@ fn records(rows: &[&Row]) {
     table("best responses", &["shape"], &columns, &lines);
 }
 
-/// Eliminations in µs, with the checks' share of single strikes; and the checks of each strike.
+/// Eliminations in µs, with the checks' share of single strikes.
 fn elimination(rows: &[&Row], checks: &[&Row]) {
     let fields = |row: &&Row| {
         let checks = checks.iter().find(|checks| checks.names[1] == row.names[1]);
@@ -302,6 +303,10 @@ fn elimination(rows: &[&Row], checks: &[&Row]) {
         "16",
     ];
     table("elimination, in µs", &["shape", "table"], &columns, &lines);
+}
+
+/// What each single strike checks, in ns.
+fn strike_checks(rows: &[&Row]) {
     let fields = |row: &&Row| {
         vec![
             row.names[1].clone(),
@@ -310,7 +315,7 @@ fn elimination(rows: &[&Row], checks: &[&Row]) {
             row.spread(|run| run[2] - run[1]).text(whole),
         ]
     };
-    let lines: Vec<Vec<String>> = checks.iter().map(fields).collect();
+    let lines: Vec<Vec<String>> = rows.iter().map(fields).collect();
     let columns = [
         "1 to 7 (range)",
         "taken over (range)",
