@@ -1,6 +1,7 @@
--- What the listed best responses are, where refusals 1 to 10 let a call pass: the strategies whose payoff no strategy's exceeds, ascending
--- (`responses-law`). There is one (`responses-some`), and any two have payoffs of equal keys (`responses-equal`). A refused call
--- writes nothing (`responses-kept`). Assumes nothing.
+-- What the listed best responses are, where refusals 1 to 10 let a call pass: the strategies whose
+-- payoff no strategy's exceeds, ascending (`responses-law`). There is one (`responses-some`), and
+-- any two have payoffs of equal keys (`responses-equal`). A refused call writes nothing
+-- (`responses-kept`). Assumes nothing.
 use mathlib.Core.Path.{_≡_, refl}
 use mathlib.Core.List.{List, [], _∷_, List·Memᴰ·not-nil as not-in-nil}
 use Prim.Native.Nat.{ℕ, _≤_, _<_}

@@ -62,8 +62,8 @@ pub space-output : (r : Refusal) (cs : List ℕ) (a : SpaceResult) → toldUnit 
 space-output none cs a h e = (rw h, λ old. rw (h, e), λ old. rw (h, e))
 space-output (some d) cs a h e = (rw h, λ old. rw h, λ old. rw h)
 
--- the part that C is told, by its first place and its length, is the part that `profile_payoffs` hands back: it starts at the same place and holds
--- the same
+-- the part that C is told, by its first place and its length, is the part that `profile_payoffs`
+-- hands back: it starts at the same place and holds the same
 pub part-is : (counts : List ℕ) (payoffs : List Float) (x : List ℕ) (first number : ℕ)
     → values first ≡ partStart counts payoffs x → values number ≡ partLength counts payoffs x
     → (first ≡ partFirst counts payoffs x) × (take number (drop first payoffs) ≡ profilePayoffs counts payoffs x)

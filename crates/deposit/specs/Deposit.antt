@@ -40,7 +40,8 @@ payoffWords x =
     let b = toBits binary64 x in
     word cellKind (b / 2 ^ 60) ∷ word cellKind (b / payloads % payloads) ∷ word cellKind (b % payloads) ∷ []
 
--- the opening word: 256 + P (edition 1); for each player the count; the cells in cell order; and the closing word
+-- the opening word: 256 + P (edition 1); for each player the count; the cells in cell order; and
+-- the closing word
 unfoldable pub deposit : List ℕ → List Float → List ℕ
 deposit counts payoffs = bytesOf (closed (word openingKind (256 + length counts) ∷ map (word countKind) counts ++ flatMap payoffWords payoffs))
 

@@ -11,7 +11,8 @@ use Rattle.candidate_input.specs.Input.{tolerable}
 unfoldable pub sumsToOne : List Float → Float → Bool
 sumsToOne p tolerance = not (lt tolerance (distance (sub binary64 (roundedSum p) one)))
 
--- every entry and the tolerance is finite, the tolerance is not negative, no entry is below −tolerance, and the sum is 1.0 up to the tolerance
+-- every entry and the tolerance is finite, the tolerance is not negative, no entry is below
+-- −tolerance, and the sum is 1.0 up to the tolerance
 unfoldable pub distribution : List Float → Float → Bool
 distribution p tolerance =
     all finite p && tolerable tolerance && all (λ x. not (lt x (neg tolerance))) p && sumsToOne p tolerance

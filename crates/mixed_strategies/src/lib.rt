@@ -30,8 +30,9 @@ fn sums_to_one(values: &[f64], tolerance: f64) -> bool
     !(far > tolerance)
 }
 
-// Whether a vector is a distribution up to the tolerance: finite numbers, no entry below -tolerance, and a sum that is 1 but for the tolerance.
-// No, too, where the tolerance isn't finite or is negative.
+// Whether a vector is a distribution up to the tolerance: finite numbers, no entry below
+// -tolerance, and a sum that is 1 but for the tolerance. No, too, where the tolerance isn't finite
+// or is negative.
 pub fn is_distribution(values: &[f64], tolerance: f64) -> bool
     ensures { λ r. ⌜ r ≡ distribution (now (values .entry)) tolerance ⌝ }
 {

@@ -18,8 +18,9 @@ report bytes = toldReport (inputTable bytes)
 
 -- ---- its size
 
--- The other lines than those of the lists, at their longest, with their ends: "players 8" has 10 bytes, "counts" with eight counts of two digits
--- 31, "equilibria" with a number of four digits 16, "struck" with one of three 11, and "catalogue none" 15.
+-- The other lines than those of the lists, at their longest, with their ends: "players 8" has 10
+-- bytes, "counts" with eight counts of two digits 31, "equilibria" with a number of four digits 16,
+-- "struck" with one of three 11, and "catalogue none" 15.
 abbrev pub otherLines : ℕ
 otherLines = 10 + 31 + 16 + 11 + 15
 

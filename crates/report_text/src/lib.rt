@@ -18,7 +18,8 @@ ghost use Rattle.report_input.specs.Input.{maxReportCells};
 ghost use Rattle.report_table.specs.Report.{tableReport};
 ghost use Rattle.report_text.specs.Report.{report};
 
-// The bytes of the other lines than those of the lists, at their longest: players, counts, equilibria, struck, catalogue.
+// The bytes of the other lines than those of the lists, at their longest: players, counts,
+// equilibria, struck, catalogue.
 const OTHER_LINES: usize = 10 + 31 + 16 + 11 + 15;
 
 // The most bytes of a report, which every report fits into: 20 for each cell, 8 for each strike, and the other lines.

@@ -1,5 +1,5 @@
--- What the records of a list are: the strategies and the payoffs that two outputs of its length are given. A refused
--- call writes nothing. Assumes nothing.
+-- What the records of a list are: the strategies and the payoffs that two outputs of its length are
+-- given. A refused call writes nothing. Assumes nothing.
 use mathlib.Core.Path.{_≡_, refl, _∙_}
 use mathlib.Core.List.{List, map, map-map, map-id}
 use Prim.Native.Nat.{ℕ}

@@ -103,7 +103,8 @@ module _ (counts : List ℕ) (payoffs : List Float) where
             };
           }
 
-    -- whatever it answers, an acceptance and the marks that it leaves make up the marks before, and what it leaves is no foreign survivors
+    -- whatever it answers, an acceptance and the marks that it leaves make up the marks before, and
+    -- what it leaves is no foreign survivors
     abbrev Left : Told ℕ → Type 0
     Left a = (cond (tells a) 1 0 + markCount (handedBack v c a) ≡ markCount v) × Good (handedBack v c a)
 
@@ -118,8 +119,8 @@ module _ (counts : List ℕ) (payoffs : List Float) where
     unfolding strikeLeaves
     strike-left = left-so
 
-  -- An accepted strike, repeated on the survivors that it handed back, gives 14. A record's marks are as many as there may be: what the logic knows
-  -- of an array.
+  -- An accepted strike, repeated on the survivors that it handed back, gives 14. A record's marks
+  -- are as many as there may be: what the logic knows of an array.
   pub struck-again : (v : Survivors) → Full v → (c : Strategy) (u : ℕ) → strikeAnswer counts payoffs v c ≡ values u
       → strikeAnswer counts payoffs (strikeLeaves counts payoffs v c) c ≡ toldRefused 14
   unfolding strikeLeaves tableGame

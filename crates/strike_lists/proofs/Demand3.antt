@@ -119,7 +119,8 @@ module _ (counts : List ℕ) (payoffs : List Float) (t : Table counts payoffs) w
 
   -- ---- what was handed back and written
 
-  -- a result that tells the number of the chain's acceptances, its survivors, and outputs that its answers were written into
+  -- a result that tells the number of the chain's acceptances, its survivors, and outputs that its
+  -- answers were written into
   pub demand-3-told : (cs : List Strategy) (r : Told ℕ) (v : Survivors) (old old′ told by : List ℕ)
       → let x = chain counts payoffs cs in r ≡ values (acceptedOf (x .answers))
       → v ≡ x .survivors

@@ -47,7 +47,8 @@ abbrev pub dominatorOf : Told ℕ → ℕ
 dominatorOf (values t) = t
 dominatorOf (toldRefused e) = 0
 
--- what a written number says, beside the dominator that stands with it: 0 an acceptance, any other number that refusal
+-- what a written number says, beside the dominator that stands with it: 0 an acceptance, any other
+-- number that refusal
 abbrev pub answerSaid : ℕ → ℕ → Told ℕ
 answerSaid zero t = values t
 answerSaid (suc e) t = toldRefused (suc e)

@@ -1,7 +1,9 @@
--- Demand 3 at the calls (document 01, "Strikes"): one claim about a table with none of refusals 1 to 7 and a list of strike calls from
--- its fresh survivors, empty or not, accepted and refused mixed, naming any numbers. It is a claim about what the list did: how many calls
--- were accepted, the answer to each, and the survivors that the last one handed back. The contract of `strikes`, which runs such a list, has
--- it of its result and of its outputs. The table is one value through all the calls: nobody writes it meanwhile. Assumes nothing.
+-- Demand 3 at the calls (document 01, "Strikes"): one claim about a table with none of refusals 1
+-- to 7 and a list of strike calls from its fresh survivors, empty or not, accepted and refused
+-- mixed, naming any numbers. It is a claim about what the list did: how many calls were accepted,
+-- the answer to each, and the survivors that the last one handed back. The contract of `strikes`,
+-- which runs such a list, has it of its result and of its outputs. The table is one value through
+-- all the calls: nobody writes it meanwhile. Assumes nothing.
 use mathlib.Core.Path.{_≡_}
 use mathlib.Core.List.{List, map}
 use mathlib.Core.Option.{none}
@@ -33,7 +35,8 @@ module _ (counts : List ℕ) (payoffs : List Float) where
   abbrev pub HoldsAll : ℕ → Type 0
   HoldsAll n = length (tableEquilibria counts payoffs) * length counts ≤ n
 
-  -- The claim about the list of calls cs: its answers are ans, n of them tell that a call was accepted, and v is handed back at last.
+  -- The claim about the list of calls cs: its answers are ans, n of them tell that a call was
+  -- accepted, and v is handed back at last.
   pub record Demand3 (cs : List Strategy) (n : ℕ) (ans : List (Told ℕ)) (v : Survivors) : Type 0 where
     -- Exactly the calls that the plain machine accepts, at the game that the table is, answer as accepted, with the machine's dominator. The
     -- others answer with the machine's refusal.

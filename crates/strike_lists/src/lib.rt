@@ -117,13 +117,16 @@ fn strike_each(
     }
 }
 
-// Runs a list of strikes from the table's fresh survivors, each on the survivors that the last one handed back; players[i] and
-// strategies[i] are named by the i-th, and of unequal lists the shorter length counts. How many were accepted, beside the survivors; into
-// `answers` 0 or the refusal's number for each strike, and into `dominators` its dominator, 0 where refused. Elements past those written
-// keep their contents. Or the first of 1 to 7, and 13 where either output is shorter than the list, beside P 0, counts 0 and no mark, and
-// nothing is written. Its last `ensures` is demand 3, for every table with none of refusals 1 to 7 and every list: a claim about the number that
-// is told, the survivors that are handed back and the answers that were written, where a 0 with its dominator is an acceptance and any other
-// number that refusal. The table is one value through all the strikes: nobody writes it meanwhile.
+// Runs a list of strikes from the table's fresh survivors, each on the survivors that the last one
+// handed back; players[i] and strategies[i] are named by the i-th, and of unequal lists the shorter
+// length counts. How many were accepted, beside the survivors; into `answers` 0 or the refusal's
+// number for each strike, and into `dominators` its dominator, 0 where refused. Elements past those
+// written keep their contents. Or the first of 1 to 7, and 13 where either output is shorter than
+// the list, beside P 0, counts 0 and no mark, and nothing is written. Its last `ensures` is demand
+// 3, for every table with none of refusals 1 to 7 and every list: a claim about the number that is
+// told, the survivors that are handed back and the answers that were written, where a 0 with its
+// dominator is an acceptance and any other number that refusal. The table is one value through all
+// the strikes: nobody writes it meanwhile.
 pub fn strikes(
     counts: &[usize],
     payoffs: &[f64],

@@ -1,4 +1,5 @@
--- How far a list of strikes was run, and what follows for the two listings behind it. Assumes nothing.
+-- How far a list of strikes was run, and what follows for the two listings behind it. Assumes
+-- nothing.
 use mathlib.Core.Path.{_≡_, refl, sym, ap, _∙_, subst}
 use mathlib.Core.Bool.{cond}
 use mathlib.Core.List.{List, [], _∷_}
@@ -36,7 +37,8 @@ module _ (counts : List ℕ) (payoffs : List Float) (v : Survivors) (cs : List S
   abbrev rest : ℕ → Survivors → Chain
   rest i left = chainFrom counts payoffs left (drop i cs)
 
-  -- i calls were run, n of them accepted, and `left` was handed back: the rest leads where all calls lead
+  -- i calls were run, n of them accepted, and `left` was handed back: the rest leads where all
+  -- calls lead
   pub record Far (i : ℕ) (left : Survivors) (n : ℕ) : Type 0 where
     pub some : i ≤ length cs
     pub few : n ≤ i

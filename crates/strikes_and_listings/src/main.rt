@@ -1,7 +1,9 @@
-// Demand 3 as statements about document 01's own calls, made one after the other. `strike_and_list` makes fresh survivors, strikes each call of a
-// list on the survivors that the last one handed back, lists the equilibria over these, and then those of the whole table; its contract says that
-// both listings answered and wrote the same, for every table, list and outputs of equal lengths. `strike_twice` strikes once more what it struck.
-// Both run on tables of document 01 and others. A line for each table: how many strikes were accepted, and each listing's answer, choices and
+// Demand 3 as statements about document 01's own calls, made one after the other. `strike_and_list`
+// makes fresh survivors, strikes each call of a list on the survivors that the last one handed
+// back, lists the equilibria over these, and then those of the whole table; its contract says that
+// both listings answered and wrote the same, for every table, list and outputs of equal lengths.
+// `strike_twice` strikes once more what it struck. Both run on tables of document 01 and others. A
+// line for each table: how many strikes were accepted, and each listing's answer, choices and
 // payoffs, with 7 where nothing was written.
 use cases::floats;
 use cases::number;
@@ -29,7 +31,8 @@ struct Struck {
     survivors: Survivors,
 }
 
-// How many strikes were accepted, the survivors, and the answers of the two listings: over the survivors, and of the whole table.
+// How many strikes were accepted, the survivors, and the answers of the two listings: over the
+// survivors, and of the whole table.
 struct Listed {
     accepted: usize,
     survivors: Survivors,
@@ -53,7 +56,8 @@ fn one_if_accepted(answer: UsizeResult) -> usize
     }
 }
 
-// A call of `strike` for each that two lists name, each on the survivors that the last one handed back.
+// A call of `strike` for each that two lists name, each on the survivors that the last one handed
+// back.
 fn strike_each(
     counts: &[usize],
     payoffs: &[f64],
@@ -81,9 +85,11 @@ fn strike_each(
     }
 }
 
-// Document 01's calls one after the other: `fresh`; `strike` for each that two lists name, each on the survivors that the last one handed back;
-// `surviving_equilibria` over these, into the first two outputs; `equilibria`, into the other two. Where the outputs have equal lengths, both
-// listings answer and write the same: what the whole table's listing does. Accepted strikes and marks make up all strategies.
+// Document 01's calls one after the other: `fresh`; `strike` for each that two lists name, each on
+// the survivors that the last one handed back; `surviving_equilibria` over these, into the first
+// two outputs; `equilibria`, into the other two. Where the outputs have equal lengths, both
+// listings answer and write the same: what the whole table's listing does. Accepted strikes and
+// marks make up all strategies.
 fn strike_and_list(
     counts: &[usize],
     payoffs: &[f64],
@@ -124,7 +130,8 @@ fn strike_and_list(
     }
 }
 
-// A strike, and the same again on the survivors that it handed back: where the first is accepted the second gives 14.
+// A strike, and the same again on the survivors that it handed back: where the first is accepted
+// the second gives 14.
 fn strike_twice(
     counts: &[usize],
     payoffs: &[f64],

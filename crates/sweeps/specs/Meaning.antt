@@ -29,11 +29,13 @@ module _ (counts : List ℕ) (payoffs : List Float) where
     pub struck : Has (tableGame counts payoffs) (k .struck)
     pub dominator : Has (tableGame counts payoffs) (strategy (k .struck .player) (k .dominator))
 
-  -- what sweeps of a table with none of refusals 1 to 7 did: ks were the strikes, and v is what is left
+  -- what sweeps of a table with none of refusals 1 to 7 did: ks were the strikes, and v is what is
+  -- left
   pub record Done (ks : List Strike) (v : Survivors) : Type 0 where
     -- they ended
     pub sweeps : Sweeps (freshOf counts) ks v
-    -- They are one list of strike calls from fresh survivors. The strikes are its accepted calls, and demand 3 holds of it.
+    -- They are one list of strike calls from fresh survivors. The strikes are its accepted calls,
+    -- and demand 3 holds of it.
     pub calls : (cs : List Strategy) × (ans : List (Told ℕ)) × (ks ≡ strikesOf cs ans) × Demand3 counts payoffs cs (length ks) ans v
     -- each strike names strategies of the table
     pub named : (k : Strike) → k ∈ ks → Named k
@@ -45,8 +47,8 @@ module _ (counts : List ℕ) (payoffs : List Float) where
     pub same-survivors : (ds : List Strategy) → Undominated (tableGame counts payoffs) (marksOf (chain counts payoffs ds .survivors))
         → marksOf v ≡ marksOf (chain counts payoffs ds .survivors)
 
-  -- The same of what was handed back and written: the survivors v, and an output that held `old` and holds `new`, where `end` is the place after
-  -- the strikes.
+  -- The same of what was handed back and written: the survivors v, and an output that held `old`
+  -- and holds `new`, where `end` is the place after the strikes.
   pub record DoneInto (v : Survivors) (old : List ℕ) (end : ℕ) (new : List ℕ) : Type 0 where
     pub strikes : List Strike
     -- the output holds the strikes, three numbers each, as far as there is room

@@ -1,5 +1,5 @@
--- Writing a list into an output one element after the other, whether two outputs have room, and that a refused call writes nothing.
--- Assumes nothing.
+-- Writing a list into an output one element after the other, whether two outputs have room, and
+-- that a refused call writes nothing. Assumes nothing.
 use mathlib.Core.Path.{_≡_, sym, ap, ap₂, _∙_}
 use mathlib.Core.Bool.{Bool}
 use mathlib.Core.List.{List, [], _∷_, _++_}
@@ -53,7 +53,8 @@ module _ (n a b : ℕ) where
 
 -- ---- what a refused call writes
 
--- Nothing, whichever refusal it is, 13 too: the output is what it was. `of t` is what a call that tells t writes.
+-- Nothing, whichever refusal it is, 13 too: the output is what it was. `of t` is what a call that
+-- tells t writes.
 pub refused-kept : {A B : Type 0} (of : Told A → List B) → ((e : ℕ) → of (refused e) ≡ [])
     → (t : Told A) (e : ℕ) → t ≡ refused e → (old : List B) → over (of t) old ≡ old
 refused-kept of nothing t e is old = ap (λ u. over (of u) old) is ∙ ap (λ xs. over xs old) (nothing e)

@@ -193,8 +193,9 @@ pub fn payoff(counts: &[usize], payoffs: &[f64], profile: &[usize], player: usiz
     }
 }
 
-// The payoffs of one profile, that of each player in order: the part of `payoffs` at offset × P, no copy of it. Empty where `offset` refuses.
-// A slice has a block and a place in it: the part lies in the same block, 8 bytes for each payoff before it further on.
+// The payoffs of one profile, that of each player in order: the part of `payoffs` at offset × P, no
+// copy of it. Empty where `offset` refuses. A slice has a block and a place in it: the part lies in
+// the same block, 8 bytes for each payoff before it further on.
 pub fn profile_payoffs<'a>(counts: &[usize], payoffs: &'a [f64], profile: &[usize]) -> &'a [f64]
     ensures { λ r. ⌜ now r ≡ profilePayoffs (now (counts .entry)) (now (payoffs .entry)) (now (profile .entry)) ⌝ }
     ensures { λ r. ⌜ r .ptr .0 ≡ payoffs .entry .ptr .0 ⌝ }

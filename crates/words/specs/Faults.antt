@@ -19,7 +19,8 @@ dueFault ws i kind =
     when (not (ltb i (length ws))) MissingWord
     then when (not (eqb (kindOf (getD ws i 0)) kind)) WrongKind
 
--- the closing word: its kind, then its number isn't that of the i words before it (19), then a word follows it (20)
+-- the closing word: its kind, then its number isn't that of the i words before it (19), then a word
+-- follows it (20)
 unfoldable pub closingFault : List ℕ → ℕ → Refusal
 closingFault ws i =
     dueFault ws i closingKind

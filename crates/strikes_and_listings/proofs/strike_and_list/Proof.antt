@@ -1,4 +1,5 @@
--- `strike_and_list` meets its contract: what each call ensures, and demand 3 for the survivors that the strikes left. Assumes nothing.
+-- `strike_and_list` meets its contract: what each call ensures, and demand 3 for the survivors that
+-- the strikes left. Assumes nothing.
 use mathlib.Core.Path.{_≡_, sym, ap, ap₂, _∙_, subst⁻¹}
 use mathlib.Core.List.{List}
 use mathlib.Core.Option.{none}

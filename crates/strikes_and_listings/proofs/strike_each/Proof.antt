@@ -1,5 +1,5 @@
--- `strike_each` meets its contract. The invariant: the first i calls were run, and the rest leads from where they led to where all calls lead.
--- Assumes nothing.
+-- `strike_each` meets its contract. The invariant: the first i calls were run, and the rest leads
+-- from where they led to where all calls lead. Assumes nothing.
 use mathlib.Core.Path.{_≡_, ap, _∙_, subst⁻¹}
 use mathlib.Core.Bool.{Bool, true, false, cond}
 use mathlib.Core.List.{List}

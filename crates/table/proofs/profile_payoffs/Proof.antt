@@ -1,5 +1,5 @@
--- `table::profile_payoffs` meets its contract: where the offset is told, the part from offset × P to P further lies within the payoffs, and is
--- the one handed back. Assumes nothing.
+-- `table::profile_payoffs` meets its contract: where the offset is told, the part from offset × P
+-- to P further lies within the payoffs, and is the one handed back. Assumes nothing.
 use mathlib.Core.Path.{_≡_, refl, sym, ap, _∙_}
 use mathlib.Core.List.{List, []}
 use Prim.Native.Nat.{ℕ, _+_, _*_, _-_}
