@@ -8,7 +8,6 @@ use deposit::PLAYER_NUMBERS;
 use refusal::NormalFormError;
 use refusal::UsizeResult;
 use words::CLOSING;
-use words::PAYLOADS;
 use words::WORD_BYTES;
 ghost use mathlib.Core.Path.{_≡_};
 ghost use mathlib.Core.List.{[], _∷_, map, flatMap};
@@ -25,16 +24,16 @@ ghost use Rattle.deposit.specs.Answers.{writeAnswer, writeBytes};
 ghost use Rattle.deposit_writer.specs.Put.{wordsPut};
 
 // How many payloads there are, as a part of a payoff's bits, and the kinds of two words of a cell.
-const PARTS: u64 = PAYLOADS as u64;
+const PAYLOADS: u64 = words::PAYLOADS as u64;
 
-const KINDS: u64 = CELL as u64 * PARTS * 0x100000001;
+const CELL_KINDS: u64 = CELL as u64 * PAYLOADS * 0x100000001;
 
 // Puts a word at a place.
 fn put_word(bytes: &mut [u8], place: usize, kind: u32, payload: u32)
     requires { ⌜ (kind < 4) × (payload < payloads) × (4 * place + 4 ≤ length (now bytes)) ⌝ }
     ensures { λ _. ⌜ now (bytes .exit) ≡ wordsPut (now (bytes .entry)) place (word kind payload ∷ []) ⌝ }
 {
-    let word = kind * PAYLOADS + payload;
+    let word = kind * words::PAYLOADS + payload;
     let at = WORD_BYTES * place;
     bytes[at] = (word / 0x1000000) as u8;
     bytes[at + 1] = (word / 0x10000 % 0x100) as u8;
@@ -62,7 +61,7 @@ fn pair(x: f64) -> u64
 {
     if utility::is_finite(x) {
         let bits = f64::to_bits(x);
-        KINDS + bits / PARTS % PARTS * 0x100000000 + bits % PARTS
+        CELL_KINDS + bits / PAYLOADS % PAYLOADS * 0x100000000 + bits % PAYLOADS
     } else {
         0
     }

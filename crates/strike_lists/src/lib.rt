@@ -105,7 +105,7 @@ fn strike_each(
         let answer = struck.answer;
         let taken = write_answer(answer, i, answers, dominators);
         // a refused strike hands back what it was given
-        if taken == 1 {
+        if 0 < taken {
             left = struck.survivors;
         }
         accepted += taken;

@@ -18,11 +18,13 @@ ghost use mathlib.Core.Option.{none};
 ghost use Prim.Native.Nat.{ℕ, _+_};
 ghost use lib.ListN.{length};
 ghost use Rattle.game.specs.Finite.{sum};
-ghost use Rattle.refusal.specs.Told.{toldUsize, values, refused, tells};
+ghost use Rattle.game.specs.Game.{strategy as named};
+ghost use Rattle.refusal.specs.Told.{toldUsize, values, refused, tells, unlessRefused};
 ghost use Rattle.table.specs.Checks.{tableRefusal};
 ghost use Rattle.table.specs.Outputs.{over};
 ghost use Rattle.pure_nash.specs.Answers.{equilibriaAnswer, equilibriaChoices, equilibriaUtilities};
-ghost use Rattle.survivors.specs.Survivors.{markCount};
+ghost use Rattle.survivors.specs.Survivors.{freshOf, noSurvivors, markCount};
+ghost use Rattle.survivor_calls.specs.Answers.{strikeAnswer, strikeLeaves, survivingAnswer, survivingChoices, survivingUtilities};
 ghost use Rattle.strike_lists.specs.Answers.{callsOf, chainFrom, acceptedOf};
 
 // How many strikes were accepted, and the survivors that the last one handed back.
@@ -86,10 +88,11 @@ fn strike_each(
 }
 
 // Document 01's calls one after the other: `fresh`; `strike` for each that two lists name, each on
-// the survivors that the last one handed back; `surviving_equilibria` over these, into the first
-// two outputs; `equilibria`, into the other two. Where the outputs have equal lengths, both
-// listings answer and write the same: what the whole table's listing does. Accepted strikes and
-// marks make up all strategies.
+// the survivors that the last one handed back; `surviving_equilibria` over these, into the first two
+// outputs; `equilibria`, into the other two. How many strikes were accepted and the survivors are
+// those of the list's calls, and each listing answers and writes what it has to. Where the outputs
+// have equal lengths, both listings answer and write the same: what the whole table's does. Accepted
+// strikes and marks make up all strategies.
 fn strike_and_list(
     counts: &[usize],
     payoffs: &[f64],
@@ -100,6 +103,13 @@ fn strike_and_list(
     choices: &mut [usize],
     utilities: &mut [f64],
 ) -> Listed
+    ensures { λ r. ⌜ (let x = chainFrom (now (counts .entry)) (now (payoffs .entry))
+        (unlessRefused (tableRefusal (now (counts .entry)) (now (payoffs .entry))) (freshOf (now (counts .entry))) noSurvivors)
+        (callsOf (now (players .entry)) (now (strategies .entry))) in
+        (r .accepted ≡ acceptedOf (x .answers)) × (r .survivors ≡ x .survivors)) ⌝ }
+    ensures { λ r. ⌜ toldUsize (r .surviving) ≡ survivingAnswer (now (counts .entry)) (now (payoffs .entry)) (r .survivors) (length (now («left_choices» .entry))) (length (now («left_utilities» .entry))) ⌝ }
+    ensures { λ r. ⌜ now («left_choices» .exit) ≡ over (survivingChoices (now (counts .entry)) (now (payoffs .entry)) (r .survivors) (length (now («left_choices» .entry))) (length (now («left_utilities» .entry)))) (now («left_choices» .entry)) ⌝ }
+    ensures { λ r. ⌜ now («left_utilities» .exit) ≡ over (survivingUtilities (now (counts .entry)) (now (payoffs .entry)) (r .survivors) (length (now («left_choices» .entry))) (length (now («left_utilities» .entry)))) (now («left_utilities» .entry)) ⌝ }
     ensures { λ r. ⌜ toldUsize (r .whole) ≡ equilibriaAnswer (now (counts .entry)) (now (payoffs .entry)) (length (now (choices .entry))) (length (now (utilities .entry))) ⌝ }
     ensures { λ r. ⌜ now (choices .exit) ≡ over (equilibriaChoices (now (counts .entry)) (now (payoffs .entry)) (length (now (choices .entry))) (length (now (utilities .entry)))) (now (choices .entry)) ⌝ }
     ensures { λ r. ⌜ now (utilities .exit) ≡ over (equilibriaUtilities (now (counts .entry)) (now (payoffs .entry)) (length (now (choices .entry))) (length (now (utilities .entry)))) (now (utilities .entry)) ⌝ }
@@ -139,6 +149,8 @@ fn strike_twice(
     player: usize,
     strategy: usize,
 ) -> Twice
+    ensures { λ r. ⌜ toldUsize (r .first) ≡ strikeAnswer (now (counts .entry)) (now (payoffs .entry)) survivors (named player strategy) ⌝ }
+    ensures { λ r. ⌜ toldUsize (r .second) ≡ strikeAnswer (now (counts .entry)) (now (payoffs .entry)) (strikeLeaves (now (counts .entry)) (now (payoffs .entry)) survivors (named player strategy)) (named player strategy) ⌝ }
     ensures { λ r. ⌜ ((t : ℕ) → toldUsize (r .first) ≡ values t → toldUsize (r .second) ≡ refused 14) ⌝ }
 {
     let struck = survivor_calls::strike(counts, payoffs, survivors, player, strategy);

@@ -149,13 +149,13 @@ module _ (c : tie.Joined1 Inv-loop μ-loop) where
   a = toldUsize (struck .strike-marked .result .answer)
 
   -- a strike whose answer is not counted was refused, and hands back what it was given
-  not-taken : (b : Told ℕ) → a ≡ b → (written .write-answer .result ≡ 1 → ⊥) → before struck ≡ struck .strike-marked .result .survivors
-  not-taken (values t) is n = absurd (n (written .write-answer .ensures .0 ∙ ap (λ (b : Told ℕ). cond (tells b) 1 0) is))
+  not-taken : (b : Told ℕ) → a ≡ b → written .write-answer .result ≡ 0 → before struck ≡ struck .strike-marked .result .survivors
+  not-taken (values t) is n = absurd (omega (arith, n, written .write-answer .ensures .0 ∙ ap (λ (b : Told ℕ). cond (tells b) 1 0) is))
   not-taken (refused e) is n = sym (struck .strike-marked .ensures .1 ∙ ap (handedBack (before struck) (call (turn struck))) is)
 
   left-so : c .if1 .left ≡ strikeLeaves (cs (turn struck .before)) (ps (turn struck .before)) (before struck) (call (turn struck))
   left-so =
-      ⊎-elim (λ w. w .2 ∙ leaves-so struck) (λ w. w .1 ∙ not-taken a refl (w .0 .left) ∙ leaves-so struck) (c .if1 .came)
+      ⊎-elim (λ w. w .2 ∙ leaves-so struck) (λ w. w .1 ∙ not-taken a refl (omega (arith, w .0)) ∙ leaves-so struck) (c .if1 .came)
 
 add-accepted : tie.Need-add-accepted Inv-loop μ-loop
 add-accepted c = omega (arith, few (turn (struck c)), room (turn (struck c)), written c .write-answer .ensures .0, one (tells (a c)))

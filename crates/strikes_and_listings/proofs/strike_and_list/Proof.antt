@@ -9,12 +9,13 @@ use lib.ListN.{length}
 use lib.Ieee.{Float}
 use Rattle.game.specs.Finite.{sum}
 use Rattle.game.specs.Game.{Strategy}
+use Rattle.refusal.specs.Told.{unlessRefused}
 use Rattle.table.specs.Checks.{tableRefusal}
 use Rattle.table.specs.Outputs.{over}
 use Rattle.survivors.specs.declared.Survivors.{Survivors}
-use Rattle.survivors.specs.Survivors.{markCount}
+use Rattle.survivors.specs.Survivors.{freshOf, noSurvivors, markCount}
 use Rattle.survivor_calls.specs.Answers.{survivingAnswer, survivingChoices, survivingUtilities}
-use Rattle.strike_lists.specs.Answers.{callsOf}
+use Rattle.strike_lists.specs.Answers.{callsOf, chainFrom, acceptedOf}
 use Rattle.strike_lists.specs.Demand3.{SameListing}
 use Rattle.strikes_and_listings.proofs.Calls.{same, counted}
 use Rattle.strikes_and_listings.proofs.strike_and_list.Statement.{statement}
@@ -73,6 +74,14 @@ module _ (c : tie.After-slice-known8) where
   abbrev v : Survivors
   v = struck .strike-each .result .survivors
 
+  -- the calls of the list, from what `fresh` handed back
+  ran : let x = chainFrom cs ps (unlessRefused (tableRefusal cs ps) (freshOf cs) noSurvivors) calls in
+      (struck .strike-each .result .accepted ≡ acceptedOf (x .answers)) × (v ≡ x .survivors)
+  ran = (
+    struck .strike-each .ensures .0 ∙ ap (λ (u : Survivors). acceptedOf (chainFrom cs ps u calls .answers)) (made .fresh .ensures .1),
+    struck .strike-each .ensures .1 ∙ ap (λ (u : Survivors). chainFrom cs ps u calls .survivors) (made .fresh .ensures .1),
+  )
+
   same-listing : (a b : ℕ) → SameListing cs ps v a b a b
   same-listing a b = subst⁻¹ (λ (u : Survivors). SameListing cs ps u a b a b) (struck .strike-each .ensures .1) (same cs ps (made .fresh .result .survivors) (made .fresh .ensures .1) calls a b)
 
@@ -87,18 +96,30 @@ returns c =
     let left = over-left c .surviving-equilibria .ensures in
     let s = start c in
     let d = same-listing c (length (s .args .choices .now)) (length (s .args .utilities .now)) in (
-      whole .0,
+      ran c,
       (
-        whole .1 .0,
+        left .0,
         (
-          whole .1 .1,
+          left .1 .0,
           (
-            λ h k. (
-              left .0 ∙ ap₂ (survivingAnswer (cs c) (ps c) (v c)) h k ∙ d .answer ∙ sym (whole .0),
-              left .1 .0 ∙ ap (λ (xs : List ℕ). over xs (s .args .left-choices .now)) (ap₂ (survivingChoices (cs c) (ps c) (v c)) h k ∙ d .choices),
-              left .1 .1 ∙ ap (λ (xs : List Float). over xs (s .args .left-utilities .now)) (ap₂ (survivingUtilities (cs c) (ps c) (v c)) h k ∙ d .utilities),
+            left .1 .1,
+            (
+              whole .0,
+              (
+                whole .1 .0,
+                (
+                  whole .1 .1,
+                  (
+                    λ h k. (
+                      left .0 ∙ ap₂ (survivingAnswer (cs c) (ps c) (v c)) h k ∙ d .answer ∙ sym (whole .0),
+                      left .1 .0 ∙ ap (λ (xs : List ℕ). over xs (s .args .left-choices .now)) (ap₂ (survivingChoices (cs c) (ps c) (v c)) h k ∙ d .choices),
+                      left .1 .1 ∙ ap (λ (xs : List Float). over xs (s .args .left-utilities .now)) (ap₂ (survivingUtilities (cs c) (ps c) (v c)) h k ∙ d .utilities),
+                    ),
+                    sum-is c,
+                  ),
+                ),
+              ),
             ),
-            sum-is c,
           ),
         ),
       ),

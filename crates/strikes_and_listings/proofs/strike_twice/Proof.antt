@@ -26,10 +26,10 @@ returns c =
     let cs = s .args .counts .now in
     let ps = s .args .payoffs .now in
     let call = strategy (s .args .player) (s .args .strategy) in
-    λ t h.
-    c .strike2 .ensures .0
-    ∙ ap (λ (v : Survivors). strikeAnswer cs ps v call) (first .strike .ensures .1)
-    ∙ struck-again cs ps (s .args .survivors) (full s) call t (sym (first .strike .ensures .0) ∙ h)
+    let second = c .strike2 .ensures .0 ∙ ap (λ (v : Survivors). strikeAnswer cs ps v call) (first .strike .ensures .1) in (
+      first .strike .ensures .0,
+      (second, λ t h. second ∙ struck-again cs ps (s .args .survivors) (full s) call t (sym (first .strike .ensures .0) ∙ h)),
+    )
 
 pub strike-twice-spec : {M : Type 1} → statement M
 strike-twice-spec = tie.close (tie.spec strike-requires strike-requires-2 returns)
