@@ -80,11 +80,21 @@ fn checks() {
     }
 }
 
+/// The Rust's loop stands at four places, and the fastest counts.
 fn finite(name: &str, payoffs: &[f64]) {
-    row(
+    let payoffs = || black_box(payoffs);
+    let timed: [Timed; 5] = [
+        &mut |calls| time(&mut || library::all_finite(payoffs()), calls),
+        &mut |calls| time(&mut || plain::all_finite::<0>(payoffs()), calls),
+        &mut |calls| time(&mut || plain::all_finite::<16>(payoffs()), calls),
+        &mut |calls| time(&mut || plain::all_finite::<32>(payoffs()), calls),
+        &mut |calls| time(&mut || plain::all_finite::<48>(payoffs()), calls),
+    ];
+    let [library, rust @ ..] = least(timed, TIME);
+    let rust = rust.into_iter().fold(f64::INFINITY, f64::min);
+    tell(
         &["checks", &format!("`all_finite`, {name}")],
-        || library::all_finite(black_box(payoffs)),
-        || plain::all_finite(black_box(payoffs)),
+        &[library, rust],
     );
 }
 
