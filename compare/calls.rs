@@ -114,12 +114,10 @@ fn utilities() -> Tally {
     let mut tally = Tally::new("Utility::new");
     let mut compare = |bits: u64| {
         let value = f64::from_bits(bits);
-        let judge = match rust::utility(value) {
-            Ok(utility) => Answer::Accepted(Bits::of(utility.value())),
-            Err(refusal) => Answer::Refused(refusal),
-        };
+        let judge = rust::utility(value).map(|utility| Bits::of(utility.value()));
         let input = || floats("value", &[value]);
-        tally.compare(Judge::Rust, input, judge, library::utility_new(value));
+        let library = library::utility_new(value);
+        tally.compare(Judge::Rust, input, judge.into(), library);
     };
     // Both signs, every exponent, fractions around every edge.
     for exponent in 0..1 << 12 {
@@ -192,12 +190,9 @@ fn spaces() -> Tally {
         } else {
             (Judge::Outside, Err(document::space_refusal(counts)))
         };
-        let judge = match judge {
-            Ok(space) => Answer::Accepted(rust::space_of(&space)),
-            Err(refusal) => Answer::Refused(refusal),
-        };
+        let judge = judge.map(|space| rust::space_of(&space));
         let input = || numbers("counts", counts);
-        tally.compare(by, input, judge, library::from_counts(counts));
+        tally.compare(by, input, judge.into(), library::from_counts(counts));
     };
     for length in 0..=3 {
         cases::lists(&cases::EDGES, length).for_each(|counts| compare(&counts));

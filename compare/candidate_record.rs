@@ -1,19 +1,21 @@
-//! The recorded sample of the candidate checks: one case a line, unsigned decimal numbers, a float as its 64 bits.
-//!
-//! `1 M N A BITS*A B BITS*B C BITS*C GAIN`: verify_correlated_equilibrium_incentives of u1, u2 and weights
-//! `2 M N A BITS*A B BITS*B C BITS*C TOLERANCE ANSWER`: verdict of the same
-//! `3 M N A BITS*A B BITS*B C BITS*C VALUE TOLERANCE ANSWER`: verify_minimax_residuals of payoffs, p1 and p2
-//!
-//! ANSWER is 1 for yes. The gain and the minimax check are the Rust's where it can be asked, the others document 01's.
+//! The recorded lines of `test_candidates`. The gain and the minimax check are the Rust's where it
+//! can be asked, the others document 01's.
 
 use crate::candidate_cases;
 use crate::candidates::{Candidate, Candidates};
 use crate::cases::Random;
 use crate::document::{self, Ground};
-use crate::library::Claim;
+use crate::library::{Bits, Claim};
 use crate::record::{self, Lines};
 
-/// How many lines a call has of a ground: more where nothing is wrong, and where several lists may be.
+const CALLS: [&str; 3] = [
+    "verify_correlated_equilibrium_incentives",
+    "verdict",
+    "verify_minimax_residuals",
+];
+
+/// How many lines a call has of a ground: more where nothing is wrong, and where several lists may
+/// be.
 fn due(ground: Ground) -> usize {
     match ground {
         Ground::Yes | Ground::NoGain | Ground::Gain1 | Ground::Gain2 => 14,
@@ -23,10 +25,10 @@ fn due(ground: Ground) -> usize {
     }
 }
 
-pub fn record(file: &str) {
+pub fn sample() -> Lines {
     let mut sample = Sample {
         lines: Lines::new(),
-        cases: [[0; Ground::TITLES.len()]; 3],
+        cases: [[0; Ground::TITLES.len()]; CALLS.len()],
     };
     for (candidate, gain) in candidate_cases::known_gains() {
         sample.gain(&candidate, gain);
@@ -58,10 +60,11 @@ pub fn record(file: &str) {
         sample.minimax(&candidate, claim);
     }
     sample.whole();
-    sample.lines.write(file);
+    sample.lines
 }
 
-/// A loose candidate, or a solved game moved by about the tolerance: one that it needs, the one below, or any.
+/// A loose candidate, or a solved game moved by about the tolerance: one that it needs, the one
+/// below, or any.
 fn minimax(random: &mut Random, sizes: [usize; 2], style: usize) -> (Candidate, Claim) {
     if style == 0 {
         return candidate_cases::loose(random, sizes);
@@ -78,23 +81,25 @@ fn minimax(random: &mut Random, sizes: [usize; 2], style: usize) -> (Candidate, 
 struct Sample {
     lines: Lines,
     /// How many lines there are, by call and ground.
-    cases: [[usize; Ground::TITLES.len()]; 3],
+    cases: [[usize; Ground::TITLES.len()]; CALLS.len()],
 }
 
 impl Sample {
     /// The gain, and the verdict with a tolerance.
     fn gain(&mut self, candidate: &Candidate, tolerance: f64) {
         let (_, ground, gain) = candidate.gain();
-        self.push(1, ground, candidate, &[gain.to_bits()]);
+        let told = record::printed(&Bits::of(gain));
+        self.push(0, ground, candidate, &[], told);
         let (ground, yes) = document::verdict((ground, gain), tolerance);
-        self.push(2, ground, candidate, &[tolerance.to_bits(), yes.into()]);
+        let told = record::yes_or_no(&yes);
+        self.push(1, ground, candidate, &[tolerance], told);
     }
 
     fn minimax(&mut self, candidate: &Candidate, claim: Claim) {
         let (_, ground, yes) = candidate.minimax(claim);
         let Claim { value, tolerance } = claim;
-        let rest = [value.to_bits(), tolerance.to_bits(), yes.into()];
-        self.push(3, ground, candidate, &rest);
+        let told = record::yes_or_no(&yes);
+        self.push(2, ground, candidate, &[value, tolerance], told);
     }
 
     /// Every call has its lines of every ground.
@@ -113,19 +118,23 @@ impl Sample {
         }
     }
 
-    fn push(&mut self, call: usize, ground: Ground, candidate: &Candidate, rest: &[u64]) {
-        let cases = &mut self.cases[call - 1][ground as usize];
+    fn push(
+        &mut self,
+        call: usize,
+        ground: Ground,
+        candidate: &Candidate,
+        rest: &[f64],
+        told: String,
+    ) {
+        let cases = &mut self.cases[call][ground as usize];
         if *cases == due(ground) {
             return;
         }
         *cases += 1;
-        let numbers = [call, candidate.m, candidate.n].map(|number| number as u64);
-        let lists = candidate.lists().into_iter().flat_map(|list| {
-            assert!(list.len() <= record::ELEMENTS);
-            record::floats(list)
-        });
-        let rest = rest.iter().copied();
-        self.lines
-            .push(numbers.into_iter().chain(lists).chain(rest));
+        let sizes = [candidate.m, candidate.n].map(|size| record::numbers(&[size]));
+        let lists = candidate.lists().map(record::floats);
+        let rest = rest.iter().map(|float| record::floats(&[*float]));
+        let arguments = sizes.into_iter().chain(lists).chain(rest);
+        self.lines.push(CALLS[call], arguments.collect(), told);
     }
 }

@@ -261,7 +261,7 @@ impl Deposits {
             ground as u32,
             Judge::Unasked,
             || file(bytes) + &numbers("lengths", &lengths),
-            answer(judge.clone().map_err(|ground| GROUNDS[ground as usize].1)),
+            Answer::from(judge.clone().map_err(|ground| GROUNDS[ground as usize].1)),
             lists.answer_table(status),
         );
         judge.ok()
@@ -283,17 +283,10 @@ impl Deposits {
                     + &floats("payoffs", payoffs)
                     + &numbers("length", &[length])
             },
-            answer(judge.clone()),
+            Answer::from(judge.clone()),
             lent.answer(status),
         );
         judge.ok()
-    }
-}
-
-fn answer<T>(judge: Result<T, u32>) -> Answer<T> {
-    match judge {
-        Ok(value) => Answer::Accepted(value),
-        Err(refusal) => Answer::Refused(refusal),
     }
 }
 

@@ -254,6 +254,15 @@ pub enum Answer<T> {
     Broken(&'static str),
 }
 
+impl<T> From<Result<T, u32>> for Answer<T> {
+    fn from(result: Result<T, u32>) -> Self {
+        match result {
+            Ok(value) => Self::Accepted(value),
+            Err(refusal) => Self::Refused(refusal),
+        }
+    }
+}
+
 /// A float by its bits, so that equal means the same bits.
 #[derive(Clone, Copy, PartialEq)]
 pub struct Bits(pub u64);

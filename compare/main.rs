@@ -1,7 +1,8 @@
-//! The library beside the Rust that it was ported from: every call of both on the same inputs, by bits.
+//! The library beside the Rust that it was ported from: every call of both on the same inputs, by
+//! bits.
 //! Words: none compares, `bench RUNS PART` prints the times of so many runs of a part or of `all`,
-//! each made by `bench-run PART`; `record FILE` writes the Rust's answers to a sample of inputs,
-//! and `record-candidates FILE` those of the candidate checks.
+//! each made by `bench-run PART`; `record` writes the Rust's answers to a sample of inputs into the
+//! lines of the test programs.
 
 mod bench;
 mod bench_tables;
@@ -56,13 +57,13 @@ fn main() {
         [] => {
             differences::differences();
             calls::compare();
+            record::record(false);
         }
         ["bench", runs, part] => bench_tables::bench(runs, part),
         ["bench-run", part] => bench::run(part),
-        ["record", file] => record::record(file),
-        ["record-candidates", file] => candidate_record::record(file),
+        ["record"] => record::record(true),
         _ => {
-            eprintln!("usage: compare [bench RUNS PART | record FILE | record-candidates FILE]");
+            eprintln!("usage: compare [bench RUNS PART | record]");
             std::process::exit(2);
         }
     }

@@ -1,37 +1,57 @@
-//! The recorded sample of the Rust's answers: one case a line, unsigned decimal numbers, a float as its 64 bits.
+//! The recorded sample of the Rust's answers: lines of `test_tables` and of `test_candidates`, and
+//! what is expected of them, in the form of docs/TESTING.md. Here are those of `test_tables`.
 //!
-//! `1 BITS STATUS`: Utility::new
-//! `2 N count*N STATUS`: from_counts
-//! `3 N count*N M BITS*M STATUS`: PayoffMatrix::new
-//! `4 N count*N M BITS*M K choice*K PLAYER STATUS BITS`: payoff, BITS 0 where it is refused
-//! `5 N count*N M BITS*M K choice*K PLAYER STATUS NUMBER A strategy*A B BITS*B`: best_responses, the K choices the
-//! opponents'
-//! `6 N count*N M BITS*M K choice*K STATUS ANSWER`: is_equilibrium, ANSWER 1 for yes
-//! `7 N count*N M BITS*M STATUS NUMBER`: the number of equilibria
-//! `8 N count*N M BITS*M STATUS NUMBER A choice*A B BITS*B`: equilibria
-//! `9 N count*N M BITS*M PLAYER STATUS NUMBER A strategy*A B dominator*B`: strictly_dominated_strategies
-//!
-//! STATUS is 0 or the number of the refusal; NUMBER and ANSWER are 0 where it is refused. The lists of A and of B are
-//! the whole outputs after the call, of which element i was 7 + i before it, a float's bits likewise. In 1 to 4 every
-//! input is in the comparison's domain; in 5 to 9 document 01 judges where the Rust does not.
+//! Element i of an output is 7 + i before the call. In `utility`, `from_counts`, `payoff_matrix`
+//! and `payoff` every input is in the comparison's domain; elsewhere document 01 judges where the
+//! Rust does not.
 
+use crate::candidate_record;
 use crate::cases::{self, Random};
 use crate::document;
-use crate::library::{Answer, Bits, Listing};
+use crate::library::{Answer, Bits, Listing, Space};
 use crate::rust::{self, Judged};
 use crate::solvers::{self, Room};
-use crate::tally::Judge;
+use crate::tally::{end, sure, Judge};
 
+/// The line before the recorded ones, and what their names begin with.
+const REMARK: &str = "# recorded from the Rust";
+const NAME: &str = "rust ";
 /// The largest count of a recorded shape, below the limit so that the sample outlives a lower one.
 const COUNT: usize = 40;
-/// The most elements of a list of a line.
-pub const ELEMENTS: usize = 64;
-/// The most bytes of a sample: its reader has room for 65,536.
-const BYTES: usize = 65_000;
+/// The most elements of an output: so many are printed whole.
+const ELEMENTS: usize = 64;
 /// What stands in an output's first element before the call.
-const FILLING: u64 = 7;
+const FILLING: usize = 7;
 
-pub fn record(file: &str) {
+/// Writes the sample in the place of the recorded lines of each program, which are the last ones of
+/// its files; or ends the run where they are not the sample.
+pub fn record(write: bool) {
+    let programs = [
+        ("test_tables", sample()),
+        ("test_candidates", candidate_record::sample()),
+    ];
+    for (program, lines) in programs {
+        let [stdin, stdout] = lines.texts();
+        for (file, first, recorded) in [("stdin", REMARK, stdin), ("stdout", NAME, stdout)] {
+            let file = format!("crates/{program}/{file}");
+            let failed = |error| -> ! { end(&format!("{file}: {error}")) };
+            let text = std::fs::read_to_string(&file).unwrap_or_else(|error| failed(error));
+            let others = text.split_inclusive('\n');
+            let others = others.take_while(|line| !line.starts_with(first));
+            let whole: String = others.chain([&recorded[..]]).collect();
+            if write {
+                std::fs::write(&file, whole).unwrap_or_else(|error| failed(error));
+            } else {
+                let wrong = format!("{file} is not what compare/run --record writes");
+                sure(whole == text, &wrong);
+            }
+        }
+        let how = ["as recorded again", "recorded"][usize::from(write)];
+        println!("sample: {} cases of {program}, {how}", lines.0.len());
+    }
+}
+
+fn sample() -> Lines {
     let mut lines = Lines::new();
     let mut random = Random(8);
     utilities(&mut lines, &mut random);
@@ -41,131 +61,170 @@ pub fn record(file: &str) {
     games(&mut lines);
     tables(&mut lines, &mut random);
     refusals(&mut lines);
-    lines.write(file);
+    lines
 }
 
-/// The lines of a sample, each once.
-pub struct Lines(Vec<String>);
+/// An argument of a call; of an output its length.
+#[derive(PartialEq)]
+pub enum Argument {
+    Numbers(Vec<usize>),
+    Floats(Vec<Bits>),
+    Output(usize),
+}
+
+pub fn numbers(list: &[usize]) -> Argument {
+    Argument::Numbers(list.to_vec())
+}
+
+pub fn floats(list: &[f64]) -> Argument {
+    Argument::Floats(list.iter().copied().map(Bits::of).collect())
+}
+
+impl Argument {
+    /// Its items, each after a space, as the next field of a line.
+    fn field(&self) -> String {
+        let items: String = match self {
+            Self::Numbers(list) => list.iter().map(number).collect(),
+            Self::Floats(list) => list.iter().map(float).collect(),
+            Self::Output(length) => format!(" {length}*{FILLING}+1"),
+        };
+        format!(" |{items}")
+    }
+}
+
+/// A call, its arguments, and what is printed after the name.
+#[derive(PartialEq)]
+struct Line {
+    call: &'static str,
+    arguments: Vec<Argument>,
+    told: String,
+}
+
+/// The lines of a sample, each once, where NaNs of other bits are others.
+pub struct Lines(Vec<Line>);
 
 impl Lines {
     pub fn new() -> Self {
         Self(Vec::new())
     }
 
-    pub fn push(&mut self, numbers: impl IntoIterator<Item = u64>) {
-        let words: Vec<String> = numbers
-            .into_iter()
-            .map(|number| number.to_string())
-            .collect();
-        let line = words.join(" ") + "\n";
+    pub fn push(&mut self, call: &'static str, arguments: Vec<Argument>, told: String) {
+        let line = Line {
+            call,
+            arguments,
+            told,
+        };
         if !self.0.contains(&line) {
             self.0.push(line);
         }
     }
 
-    pub fn write(&self, file: &str) {
-        let text = self.0.concat();
-        assert!(text.len() <= BYTES, "the sample has {} bytes", text.len());
-        if let Err(error) = std::fs::write(file, &text) {
-            println!("compare: {file}: {error}");
-            std::process::exit(1);
+    /// The lines after their remark, and the output that is expected of them.
+    fn texts(&self) -> [String; 2] {
+        let mut texts = [format!("{REMARK}\n"), String::new()];
+        for (place, line) in self.0.iter().enumerate() {
+            let Line { call, told, .. } = line;
+            let so_far = self.0[..=place].iter();
+            let number = so_far.filter(|other| other.call == *call).count();
+            let name = format!("{NAME}{call} {number}");
+            let fields: String = line.arguments.iter().map(Argument::field).collect();
+            texts[0] += &format!("{name} | {call}{fields}\n");
+            texts[1] += &format!("{name}:{told}\n");
         }
-        println!(
-            "compare: {} cases recorded, {} bytes",
-            self.0.len(),
-            text.len()
-        );
+        texts
     }
 
-    fn utility(&mut self, bits: u64) {
-        let status = rust::utility(f64::from_bits(bits)).err().unwrap_or(0);
-        self.push([1, bits, status.into()]);
+    fn utility(&mut self, value: f64) {
+        let answer = rust::utility(value).map(|utility| utility.value().to_bits());
+        let told = told(&answer.into(), |bits| format!(" {bits:016x}"));
+        self.push("utility", vec![floats(&[value])], told);
     }
 
     fn space(&mut self, counts: &[usize]) {
         if document::in_domain(counts) {
-            let status = rust::space(counts).err().unwrap_or(0);
-            self.push([2].into_iter().chain(list(counts)).chain([status.into()]));
+            let answer = rust::space(counts).map(|space| rust::space_of(&space));
+            let told = told_space(answer.into());
+            self.push("from_counts", vec![numbers(counts)], told);
         }
     }
 
     fn matrix(&mut self, counts: &[usize], payoffs: &[f64]) {
         let judged = Judged::new(counts, payoffs);
         if judged.by == Judge::Rust {
-            let status = judged.table.err().unwrap_or(0);
-            let inputs = list(counts).chain(floats(payoffs));
-            self.push([3].into_iter().chain(inputs).chain([status.into()]));
+            self.on_table("payoff_matrix", &judged, [], told_space(judged.space()));
         }
     }
 
     fn payoff(&mut self, counts: &[usize], payoffs: &[f64], profile: &[usize], player: usize) {
         let judged = Judged::new(counts, payoffs);
         if judged.by == Judge::Rust {
-            let inputs = list(counts).chain(floats(payoffs)).chain(list(profile));
-            let inputs = inputs.chain([player as u64]);
-            self.answer(4, inputs, judged.payoff(profile, player), |Bits(bits)| bits);
+            let told = told(&judged.payoff(profile, player), printed);
+            let rest = [numbers(profile), numbers(&[player])];
+            self.on_table("payoff", &judged, rest, told);
         }
     }
 
-    /// All calls from 5 on for a case.
+    /// All calls from best_responses on for a case.
     fn solvers(&mut self, case: &Case) {
-        let judged = Judged::new(case.counts, case.payoffs);
+        let judged = &Judged::new(case.counts, case.payoffs);
+        let player = || numbers(&[case.player]);
         let listing = judged.best_responses(case.player, case.opponents);
-        let inputs = list(case.opponents).chain([case.player as u64]);
-        self.listing(5, case, inputs, &judged, listing, |Bits(bits)| bits);
-        let inputs = case.table().chain(list(case.profile));
-        self.answer(6, inputs, judged.is_equilibrium(case.profile), u64::from);
+        let rest = vec![player(), numbers(case.opponents)];
+        self.listing("best_responses", judged, rest, case.room, &listing, printed);
+        let answer = judged.is_equilibrium(case.profile);
+        let rest = [numbers(case.profile)];
+        self.on_table("is_equilibrium", judged, rest, told(&answer, yes_or_no));
         let listing = judged.equilibria();
-        let number = rust::count(&listing);
-        self.answer(7, case.table(), number, |number| number as u64);
-        self.listing(8, case, [], &judged, listing, |Bits(bits)| bits);
+        let count = told(&rust::count(&listing), number);
+        self.on_table("count_equilibria", judged, [], count);
+        self.listing("equilibria", judged, vec![], case.room, &listing, printed);
         let listing = judged.dominated(case.player);
-        let player = [case.player as u64];
-        self.listing(9, case, player, &judged, listing, |number| number as u64);
+        self.listing(
+            "strictly_dominated_strategies",
+            judged,
+            vec![player()],
+            case.room,
+            &listing,
+            number,
+        );
     }
 
-    fn answer<T>(
+    /// A case of a call whose first arguments are a table's.
+    fn on_table(
         &mut self,
-        call: u64,
-        inputs: impl Iterator<Item = u64>,
-        answer: Answer<T>,
-        value: impl FnOnce(T) -> u64,
+        call: &'static str,
+        judged: &Judged,
+        rest: impl IntoIterator<Item = Argument>,
+        told: String,
     ) {
-        let (status, value) = match answer {
-            Answer::Accepted(answer) => (0, value(answer)),
-            Answer::Refused(status) => (status, 0),
-            Answer::Broken(how) => unreachable!("{how}"),
-        };
-        let inputs = [call].into_iter().chain(inputs);
-        self.push(inputs.chain([status.into(), value]));
+        let table = [numbers(judged.counts), floats(judged.payoffs)];
+        self.push(call, table.into_iter().chain(rest).collect(), told);
     }
 
     fn listing<T: Clone>(
         &mut self,
-        call: u64,
-        case: &Case,
-        inputs: impl IntoIterator<Item = u64>,
+        call: &'static str,
         judged: &Judged,
-        listing: Result<Listing<T>, u32>,
-        element: impl Fn(T) -> u64,
+        rest: Vec<Argument>,
+        room: Room,
+        listing: &Result<Listing<T>, u32>,
+        element: impl Fn(&T) -> String,
     ) {
-        let lengths = solvers::lengths(&listing, case.room);
-        let (_, answer) = judged.lent(&listing, lengths);
-        let (status, number, first, second) = match answer {
-            Answer::Accepted(listing) => (0, listing.number, listing.first, listing.second),
-            Answer::Refused(status) => (status, 0, Vec::new(), Vec::new()),
-            Answer::Broken(how) => unreachable!("{how}"),
+        let lengths = solvers::lengths(listing, room);
+        let (_, answer) = judged.lent(listing, lengths);
+        let told = told(&answer, |listing| number(&listing.number));
+        let (first, second) = match answer {
+            Answer::Accepted(listing) => (listing.first, listing.second),
+            _ => (Vec::new(), Vec::new()),
         };
-        let first = output(first.into_iter().map(|number| number as u64), lengths[0]);
-        let second = output(second.into_iter().map(element), lengths[1]);
-        let answer = [status.into(), number as u64];
-        let outputs = answer.into_iter().chain(first).chain(second);
-        let inputs = case.table().chain(inputs);
-        self.push([call].into_iter().chain(inputs).chain(outputs));
+        let first = output(&first, lengths[0], number);
+        let second = output(&second, lengths[1], element);
+        let rest = rest.into_iter().chain(lengths.map(Argument::Output));
+        self.on_table(call, judged, rest, told + &first + &second);
     }
 }
 
-/// The inputs of the calls from 5 on.
+/// The inputs of the calls from best_responses on.
 struct Case<'a> {
     counts: &'a [usize],
     payoffs: &'a [f64],
@@ -175,41 +234,87 @@ struct Case<'a> {
     room: Room,
 }
 
-impl Case<'_> {
-    fn table(&self) -> impl Iterator<Item = u64> + '_ {
-        assert!(self.payoffs.len() <= ELEMENTS);
-        list(self.counts).chain(floats(self.payoffs))
+/// A space and the number; so all that is printed stands after a space.
+fn number(number: &usize) -> String {
+    format!(" {number}")
+}
+
+pub fn yes_or_no(yes: &bool) -> String {
+    let word = if *yes { " yes" } else { " no" };
+    word.to_string()
+}
+
+/// A float in decimal, if it is a whole number below 2^64, to which the largest u64 is rounded.
+fn whole(value: f64) -> Option<String> {
+    let magnitude = value.abs();
+    let is_whole = magnitude < u64::MAX as f64 && magnitude.fract() == 0.0;
+    is_whole.then(|| format!(" {}{}", sign(value), magnitude as u64))
+}
+
+fn sign(value: f64) -> &'static str {
+    if value.is_sign_negative() {
+        "-"
+    } else {
+        ""
     }
 }
 
-/// An output as a list: what was written, then the rest as it was.
-fn output(written: impl Iterator<Item = u64>, length: usize) -> impl Iterator<Item = u64> {
+/// A float as it stands in a line.
+fn float(bits: &Bits) -> String {
+    let value = f64::from_bits(bits.0);
+    match whole(value) {
+        Some(decimal) => decimal,
+        None if value.is_nan() => " NaN".to_string(),
+        None => format!(" {bits:?}"),
+    }
+}
+
+/// A float as a program prints it; no answer is a NaN.
+pub fn printed(bits: &Bits) -> String {
+    let value = f64::from_bits(bits.0);
+    match whole(value) {
+        Some(decimal) => decimal,
+        None if value.is_infinite() => format!(" {}infinity", sign(value)),
+        None => format!(" {}bits {:016x}", sign(value), value.abs().to_bits()),
+    }
+}
+
+/// What a call tells: the value, or the refusal.
+fn told<T>(answer: &Answer<T>, value: impl FnOnce(&T) -> String) -> String {
+    match answer {
+        Answer::Accepted(accepted) => " ok".to_string() + &value(accepted),
+        Answer::Refused(status) => format!(" refused {status}"),
+        Answer::Broken(how) => unreachable!("{how}"),
+    }
+}
+
+/// The same of a space, of which all is 0 where it is refused.
+fn told_space(answer: Answer<Space>) -> String {
+    let told = told(&answer, |_| String::new());
+    let (players, counts) = match answer {
+        Answer::Accepted(space) => (space.players, space.counts),
+        _ => (0, [0; document::PLAYERS]),
+    };
+    let counts: String = counts.iter().map(number).collect();
+    format!("{told}, players {players}, counts{counts}")
+}
+
+/// An output afterwards: what was written, then the rest as it was.
+fn output<T>(written: &[T], length: usize, element: impl Fn(&T) -> String) -> String {
     assert!(length <= ELEMENTS);
-    let mut elements: Vec<u64> = written.collect();
-    elements.extend((FILLING..).take(length).skip(elements.len()));
-    [length as u64].into_iter().chain(elements)
-}
-
-fn list(numbers: &[usize]) -> impl Iterator<Item = u64> + '_ {
-    [numbers.len()]
-        .into_iter()
-        .chain(numbers.iter().copied())
-        .map(|number| number as u64)
-}
-
-pub fn floats(floats: &[f64]) -> impl Iterator<Item = u64> + '_ {
-    [floats.len() as u64]
-        .into_iter()
-        .chain(floats.iter().map(|float| float.to_bits()))
+    let rest = (FILLING..).take(length).skip(written.len());
+    let written = written.iter().map(element);
+    let elements: String = written.chain(rest.map(|rest| number(&rest))).collect();
+    format!(",{elements}")
 }
 
 fn utilities(lines: &mut Lines, random: &mut Random) {
     for bits in cases::FINITE.into_iter().chain(cases::NON_FINITE) {
-        lines.utility(bits);
+        lines.utility(f64::from_bits(bits));
     }
     for _ in 0..70 {
-        lines.utility(random.finite().to_bits());
-        lines.utility(random.non_finite().to_bits());
+        lines.utility(random.finite());
+        lines.utility(random.non_finite());
     }
 }
 
@@ -332,7 +437,8 @@ fn games(lines: &mut Lines) {
     }
 }
 
-/// Tables with ties and both zeros, most of them of values whose bits have few digits, and every length of the outputs.
+/// Tables with ties and both zeros, most of them of values whose bits have few digits, and every
+/// length of the outputs.
 fn tables(lines: &mut Lines, random: &mut Random) {
     let shapes: [&[usize]; 8] = [
         &[2, 2],
@@ -367,8 +473,8 @@ fn tables(lines: &mut Lines, random: &mut Random) {
     }
 }
 
-/// A player's own choice with a cell here and there of another value; both zeros and others, where the cells are few;
-/// three values.
+/// A player's own choice with a cell here and there of another value; both zeros and others, where
+/// the cells are few; three values.
 fn few_digits(random: &mut Random, counts: &[usize], style: usize) -> Vec<f64> {
     let own = cases::own_choices(counts);
     let few = own.len() < 10;

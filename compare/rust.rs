@@ -78,10 +78,8 @@ pub fn dominated(matrix: &PayoffMatrix, player: usize) -> Result<Vec<DominatedSt
 
 /// The length of a list.
 pub fn count<T>(listing: &Result<Listing<T>, u32>) -> Answer<usize> {
-    match listing {
-        Ok(listing) => Answer::Accepted(listing.number),
-        Err(refusal) => Answer::Refused(*refusal),
-    }
+    let number = listing.as_ref().map(|listing| listing.number);
+    number.map_err(|refusal| *refusal).into()
 }
 
 /// A table, or its refusal, and who gave it.
@@ -113,10 +111,8 @@ impl<'a> Judged<'a> {
     }
 
     pub fn space(&self) -> Answer<Space> {
-        match &self.table {
-            Ok(matrix) => Answer::Accepted(space_of(matrix.strategies())),
-            Err(refusal) => Answer::Refused(*refusal),
-        }
+        let space = |matrix: &PayoffMatrix| space_of(matrix.strategies());
+        self.matrix().map(space).into()
     }
 
     /// The Rust says no more than None; document 01 then gives the number.
@@ -215,13 +211,8 @@ impl<'a> Judged<'a> {
         value: impl FnOnce(&PayoffMatrix) -> Option<T>,
         refusal: impl FnOnce() -> u32,
     ) -> Answer<T> {
-        match &self.table {
-            Ok(matrix) => match value(matrix) {
-                Some(value) => Answer::Accepted(value),
-                None => Answer::Refused(refusal()),
-            },
-            Err(refusal) => Answer::Refused(*refusal),
-        }
+        let value = |matrix| value(matrix).ok_or_else(refusal);
+        self.matrix().and_then(value).into()
     }
 }
 
