@@ -1,0 +1,56 @@
+-- `test_print::bits_sum` is safe and ends. The measure is what is left of the list.
+-- Assumes nothing.
+use Prim.Native.Nat.{_-_}
+use lib.ListN.{length}
+use borrow.Author.Needs.{needs}
+use Rattle.test_print.proofs.bits_sum.Statement.{statement}
+use Rattle.test_print.proofs.bits_sum.Tie as tie
+
+abbrev Inv-loop : tie.InvT-loop
+Inv-loop list all₀ i₀ all i = Unit {0}
+
+abbrev μ-loop : tie.MeasureT-loop
+μ-loop list all₀ i₀ all i = length list - i
+
+loop-holds : tie.Need-loop-holds Inv-loop μ-loop
+loop-holds c = search needs
+
+mul-known-bits : tie.Need-mul-known-bits Inv-loop μ-loop
+mul-known-bits c = search needs
+
+shared-slice-read-known-bits : tie.Need-shared-slice-read-known-bits Inv-loop μ-loop
+shared-slice-read-known-bits c = search needs
+
+known-bits-requires : tie.Need-known-bits-requires Inv-loop μ-loop
+known-bits-requires c κs = search needs
+
+wrapping-add-usize-requires : tie.Need-wrapping-add-usize-requires Inv-loop μ-loop
+wrapping-add-usize-requires c κs = search needs
+
+add-i : tie.Need-add-i Inv-loop μ-loop
+add-i c = search needs
+
+loop-less : tie.Need-loop-less Inv-loop μ-loop
+loop-less c = search needs
+
+loop-again : tie.Need-loop-again Inv-loop μ-loop
+loop-again c = search needs
+
+returns : tie.Need-returns Inv-loop μ-loop
+returns c = search needs
+
+pub bits-sum-spec : {M : Type 1} → statement M
+bits-sum-spec =
+    tie.close
+    (tie.spec
+    Inv-loop
+    μ-loop
+    loop-holds
+    mul-known-bits
+    shared-slice-read-known-bits
+    known-bits-requires
+    wrapping-add-usize-requires
+    add-i
+    loop-less
+    loop-again
+    returns)
