@@ -15,13 +15,13 @@ use Rattle.game.proofs.Sorted.{lists-iff}
 use Rattle.game.proofs.Game.{whole-law}
 use Rattle.game.proofs.Solution.{bestResponses-law, best-whole}
 use Rattle.refusal.specs.Told.{Told, refused}
+use Rattle.written_lists.specs.Outputs.{written, over}
+use Rattle.written_lists.proofs.Outputs.{refused-kept}
 use Rattle.utility.specs.Order.{key, rank}
 use Rattle.utility.proofs.Rank.{rank-eq}
 use Rattle.table.specs.Table.{cell, payoffAt, tableGame}
-use Rattle.table.specs.Outputs.{written, over}
 use Rattle.table.proofs.Game.{game-playable}
 use Rattle.table.proofs.Offsets.{cell-below}
-use Rattle.table.proofs.Outputs.{refused-kept}
 use Rattle.best_response.specs.Answers.{against, responses, responseUtilities, responsesAnswer, responsesWritten}
 use Rattle.best_response.proofs.Opponents.{set-against, Accepted}
 use Rattle.best_response.proofs.Responses.{accepted-profile}

@@ -15,14 +15,15 @@ use Rattle.game.proofs.Solution.{bestResponses-law}
 use Rattle.game.proofs.Ordinal.{marks-read}
 use Rattle.refusal.specs.Told.{Told, refused, unless}
 use Rattle.refusal.proofs.Told.{refused-first}
+use Rattle.written_lists.specs.Outputs.{roomRefusal, written, over}
 use Rattle.table.specs.Limits.{maxStrategies, maxMarks}
 use Rattle.table.specs.Table.{offset, stride, cell, payoffAt, tableGame}
-use Rattle.table.specs.Marks.{marked}
 use Rattle.table.specs.Checks.{tableRefusal}
-use Rattle.table.specs.Outputs.{roomRefusal, written, over}
 use Rattle.table.proofs.Checks.{table-law, player-law, no-player}
 use Rattle.table.proofs.Offsets.{cell-below}
-use Rattle.table.proofs.Walk.{row-cell, marks-whole}
+use Rattle.table.proofs.Walk.{row-cell}
+use Rattle.marks.specs.Marks.{marked}
+use Rattle.marks.proofs.Marks.{marks-whole}
 use Rattle.strategy_row.specs.Row.{rowBests, rowReaching, rowLowest}
 use Rattle.strategy_row.proofs.Row.{row-reaching, row-bests}
 use Rattle.best_response.specs.Row.{rowResponses, rowAnswer, rowWritten, rowUtilities}

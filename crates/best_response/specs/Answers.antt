@@ -11,9 +11,9 @@ use Rattle.game.specs.Solution.{bestResponses}
 use Rattle.refusal.specs.Refusal.{Refusal, when, _then_, each}
 use Rattle.refusal.specs.Told.{Told, unless}
 use Rattle.refusal.specs.declared.NormalFormError.the-variants.{OpponentProfileCount, InvalidOpponentStrategy}
+use Rattle.written_lists.specs.Outputs.{roomRefusal, written}
 use Rattle.table.specs.Table.{payoffAt, tableGame}
 use Rattle.table.specs.Checks.{tableRefusal, playerRefusal}
-use Rattle.table.specs.Outputs.{roomRefusal, written}
 
 -- the profile in which player p chooses s and the others, in player order with p's own place skipped, as given
 abbrev pub against : ℕ → List ℕ → ℕ → List ℕ

@@ -5,9 +5,9 @@ use Prim.Native.Nat.{ℕ, _+_, _*_}
 use lib.ListN.{length, getD, take, replicate}
 use lib.Ieee.{Float, nan}
 use Rattle.refusal.specs.Told.{Told, unless}
+use Rattle.written_lists.specs.Outputs.{roomRefusal, written}
 use Rattle.table.specs.Limits.{maxStrategies, maxMarks}
 use Rattle.table.specs.Table.{stride}
-use Rattle.table.specs.Outputs.{roomRefusal, written}
 use Rattle.strategy_row.specs.Row.{rowBests}
 
 -- The row of player p in a table, from the offset of the profile in which p chooses 0, with every strategy marked.

@@ -17,11 +17,11 @@ use Rattle.refusal.specs.Told.{values, unless}
 use Rattle.refusal.specs.declared.NormalFormError.the-variants.{TooManyCells}
 use Rattle.refusal.proofs.Refusal.{when-none, then-none, then-last, each-none, none-each}
 use Rattle.refusal.proofs.Told.{told-values}
+use Rattle.written_lists.specs.Outputs.{shortRefusal}
 use Rattle.utility.specs.Order.{finite}
 use Rattle.table.specs.Limits.{maxPlayers, maxCells}
 use Rattle.table.specs.Table.{cells}
 use Rattle.table.specs.Meaning.{Doubles, Table}
-use Rattle.table.specs.Outputs.{shortRefusal}
 use Rattle.table.specs.Checks.{countRefusal, countsRefusal}
 use Rattle.table.proofs.Checks.{count-fits, counts-law}
 use Rattle.words.specs.Words.{word, payloadAt, wordsOf, bytesOf, closed, Bytes}

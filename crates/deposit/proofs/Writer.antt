@@ -12,9 +12,9 @@ use Rattle.refusal.specs.Refusal.{numberOf}
 use Rattle.refusal.specs.Told.{values, refused}
 use Rattle.refusal.specs.declared.NormalFormError.{NormalFormError}
 use Rattle.refusal.proofs.Told.{told-of-refused}
+use Rattle.written_lists.specs.Outputs.{writtenOf, over}
+use Rattle.written_lists.proofs.Outputs.{refused-kept}
 use Rattle.table.specs.Checks.{tableRefusal}
-use Rattle.table.specs.Outputs.{writtenOf, over}
-use Rattle.table.proofs.Outputs.{refused-kept}
 use Rattle.words.specs.Words.{word, closed}
 use Rattle.words.proofs.Words.{bytes-length, closed-length}
 use Rattle.deposit.specs.Deposit.{payoffWords, deposit, fileOf}

@@ -4,7 +4,7 @@ use Prim.Native.Nat.{ℕ}
 use lib.ListN.{length}
 use lib.Ieee.{Float}
 use Rattle.refusal.specs.Told.{Told, toldOf}
-use Rattle.table.specs.Outputs.{writtenOf, over}
+use Rattle.written_lists.specs.Outputs.{writtenOf, over}
 use Rattle.deposit.specs.Deposit.{fileOf, tableOf}
 
 -- ---- the reader: from the file's bytes, and what the two outputs held

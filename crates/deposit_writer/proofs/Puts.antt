@@ -10,7 +10,7 @@ use lib.ListN.{length, getD, set, take, drop, length-map}
 use lib.Seq.{sets, sets-eq, length-sets, take-suc, length-take-le}
 use lib.Ieee.{Float, nan}
 use Rattle.game.proofs.Finite.{flatMap-last}
-use Rattle.table.specs.Outputs.{over}
+use Rattle.written_lists.specs.Outputs.{over}
 use Rattle.words.specs.Words.{word, wordBytes, bytesOf, closed}
 use Rattle.words.proofs.Words.{bytes-length}
 use Rattle.deposit.specs.Deposit.{payoffWords, deposit}

@@ -12,7 +12,7 @@ use Rattle.game.specs.Finite.{product}
 use Rattle.game.specs.Game.{Game, Marks, choice, profiles}
 use Rattle.game.specs.Solution.{bestResponse, equilibrium}
 use Rattle.table.specs.Table.{cellRank, tableGame}
-use Rattle.table.specs.Marks.{marked}
+use Rattle.marks.specs.Marks.{marked}
 
 -- player p's choice in x is a best response to the others'
 unfoldable pub settled : Game → Marks → List ℕ → ℕ → Bool

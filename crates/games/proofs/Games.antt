@@ -11,13 +11,13 @@ use Rattle.game.specs.Game.{strategy, strategies, profiles, whole, inside, othe
 use Rattle.game.specs.Solution.{dominates, dominators, dominator, gains, deviations, bestResponse, bestResponses, equilibrium, equilibria}
 use Rattle.game.specs.Strikes.{answer}
 use Rattle.refusal.specs.Told.{values, refused}
+use Rattle.written_lists.specs.Outputs.{roomRefusal}
 use Rattle.utility.specs.Order.{finite, key as orderKey, rank}
 use Rattle.table.specs.Table.{offset, cell, payoffAt, profilePart, tableGame}
-use Rattle.table.specs.Marks.{marked}
 use Rattle.table.specs.Checks.{countRefusal, countsRefusal, payoffsRefusal, tableRefusal, playerRefusal, profileRefusal}
 use Rattle.table.specs.Answers.{offsetAnswer, payoffAnswer}
-use Rattle.table.specs.Outputs.{roomRefusal}
 use Rattle.table.proofs.Examples.{minus-zero, zero, five, zeros, ties, pair, dilemma, pennies, twice, after}
+use Rattle.marks.specs.Marks.{marked}
 use Rattle.best_response.specs.Answers.{opponentsRefusal, responses, responseUtilities, responsesAnswer, responsesWritten}
 use Rattle.pure_nash.specs.Answers.{listingAnswer, listedChoices, equilibriaAnswer, equilibriaChoices}
 use Rattle.survivors.specs.declared.Survivors.{Survivors}

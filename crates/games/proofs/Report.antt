@@ -8,9 +8,9 @@ use Rattle.game.specs.Solution.{dominates, dominators, dominator, gains, deviat
 use Rattle.game.specs.Strikes.{answer}
 use Rattle.utility.specs.Order.{finite, key as orderKey, rank}
 use Rattle.table.specs.Table.{offset, payoffAt, profilePart, tableGame}
-use Rattle.table.specs.Marks.{marked}
 use Rattle.table.specs.Checks.{countRefusal, countsRefusal, payoffsRefusal, tableRefusal}
 use Rattle.table.proofs.Examples.{pair, dilemma}
+use Rattle.marks.specs.Marks.{marked}
 use Rattle.survivors.specs.Survivors.{withoutMark, allMarks, freshOf, markedFrom, foreign}
 use Rattle.survivor_calls.specs.Answers.{strikeAnswer, strikeLeaves}
 use Rattle.words.specs.Words.{word, kindOf, payloadOf, wordBytes, bytesOf, closed, wordAt, wordsOf}

@@ -10,13 +10,13 @@ use Rattle.game.specs.Game.{Strategy, strategy, strategies, profiles, whole, in
 use Rattle.game.specs.Solution.{dominates, dominators, dominator, gains, deviations, equilibrium, equilibria}
 use Rattle.game.specs.Strikes.{answer}
 use Rattle.refusal.specs.Told.{Told, values, refused}
+use Rattle.written_lists.specs.Outputs.{roomRefusal}
 use Rattle.utility.specs.Order.{finite, key, rank}
 use Rattle.table.specs.Limits.{maxPlayers, maxMarks}
 use Rattle.table.specs.Table.{offset, payoffAt, profilePart, tableGame}
-use Rattle.table.specs.Marks.{marked}
 use Rattle.table.specs.Checks.{countRefusal, countsRefusal, payoffsRefusal, tableRefusal}
-use Rattle.table.specs.Outputs.{roomRefusal}
 use Rattle.table.proofs.Examples.{ties, pair, dilemma, after}
+use Rattle.marks.specs.Marks.{marked}
 use Rattle.pure_nash.specs.Answers.{listingAnswer, listedChoices}
 use Rattle.survivors.specs.declared.Survivors.{Survivors}
 use Rattle.survivors.specs.Survivors.{withoutMark, markCount, allMarks, freshOf, noSurvivors, markedFrom, foreign}

@@ -16,9 +16,9 @@ use Rattle.game.proofs.Finite.{le-or-lt}
 use Rattle.game.proofs.Game.{earlier-asym, set-profile}
 use Rattle.table.specs.Limits.{maxPlayers, maxStrategies}
 use Rattle.table.specs.Table.{offset, stride}
-use Rattle.table.specs.Marks.{marked}
 use Rattle.table.proofs.Offsets.{earlier-offset, nth-earlier, nth-profile, offset-nth, nth-offset, nth-zero, nth-choice, walk-at-most, walk-base, walk-below}
-use Rattle.table.proofs.Walk.{mark-at}
+use Rattle.marks.specs.Marks.{marked}
+use Rattle.marks.proofs.Marks.{mark-at}
 use Rattle.marked_rows.specs.Rows.{NextMark, Kept, MarkedRow, NextRow}
 
 -- ---- numbers

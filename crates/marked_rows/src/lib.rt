@@ -7,8 +7,8 @@ ghost use Prim.Native.Nat.{_+_, _≤_, _<_};
 ghost use lib.ListN.{length};
 ghost use Rattle.game.specs.Finite.{product};
 ghost use Rattle.table.specs.Limits.{maxPlayers, maxMarks};
-ghost use Rattle.table.specs.Marks.{marked};
 ghost use Rattle.table.specs.Meaning.{Shape};
+ghost use Rattle.marks.specs.Marks.{marked};
 ghost use Rattle.marked_rows.specs.Rows.{NextMark, Kept, MarkedRow, NextRow};
 
 // The first strategy from `from` on, below `count`, that has a mark among those that start at `place`, or `count` where there is none.

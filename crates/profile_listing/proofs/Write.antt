@@ -9,7 +9,7 @@ use native.Mathlib.Numerals.{add-one}
 use native.Mathlib.Omega.{arith}
 use lib.ListN.{length, getD, set, take, drop, length-append, length-drop, take-append-drop, drop-of-length-le}
 use lib.Seq.{take-suc, drop-cons, drop-length, drop-drop, set-at, length-take-le, take-at, drop-append-add}
-use Rattle.table.specs.Outputs.{over}
+use Rattle.written_lists.specs.Outputs.{over}
 use Rattle.profile_listing.specs.Chosen.{chosen}
 
 -- ---- a list into its place, from its last element to its first

@@ -19,14 +19,14 @@ use Rattle.refusal.specs.Refusal.{_then_}
 use Rattle.refusal.specs.Told.{values}
 use Rattle.refusal.proofs.Told.{told-values}
 use Rattle.refusal.proofs.Refusal.{then-none}
+use Rattle.written_lists.specs.Outputs.{roomRefusal}
 use Rattle.table.specs.Limits.{maxMarks}
 use Rattle.table.specs.Table.{tableGame}
-use Rattle.table.specs.Marks.{marked}
 use Rattle.table.specs.Meaning.{Shape}
 use Rattle.table.specs.Checks.{tableRefusal, profileRefusal}
-use Rattle.table.specs.Outputs.{roomRefusal}
 use Rattle.table.proofs.Checks.{profile-law}
-use Rattle.table.proofs.Walk.{marks-whole}
+use Rattle.marks.specs.Marks.{marked}
+use Rattle.marks.proofs.Marks.{marks-whole}
 use Rattle.pure_nash.specs.Answers.{tableEquilibria, isEquilibriumAnswer, countAnswer, listingAnswer, equilibriaAnswer}
 
 module _ (counts : List ℕ) (payoffs : List Float) where

@@ -17,11 +17,11 @@ use Rattle.refusal.specs.Refusal.{Refusal, numberOf, _then_}
 use Rattle.refusal.specs.Told.{values, refused, unless}
 use Rattle.refusal.specs.declared.NormalFormError.{NormalFormError}
 use Rattle.refusal.proofs.Told.{told-values}
+use Rattle.written_lists.specs.Outputs.{roomRefusal, written, joined, over}
+use Rattle.written_lists.proofs.Outputs.{refused-kept}
 use Rattle.table.specs.Table.{profilePart, tableGame}
-use Rattle.table.specs.Marks.{marked}
 use Rattle.table.specs.Meaning.{Table}
-use Rattle.table.specs.Outputs.{roomRefusal, written, joined, over}
-use Rattle.table.proofs.Outputs.{refused-kept}
+use Rattle.marks.specs.Marks.{marked}
 use Rattle.equilibrium_search.specs.Found.{Found}
 use Rattle.profile_listing.specs.Chosen.{chosen, foundAnswer, foundChoices, foundUtilities}
 use Rattle.profile_listing.proofs.Listing.{flat-map}

@@ -8,9 +8,9 @@ use Rattle.game.specs.Game.{Marks, whole}
 use Rattle.game.specs.Solution.{equilibrium, equilibria}
 use Rattle.refusal.specs.Refusal.{Refusal, _then_}
 use Rattle.refusal.specs.Told.{Told, unless}
+use Rattle.written_lists.specs.Outputs.{roomRefusal, written, joined}
 use Rattle.table.specs.Table.{profilePart, tableGame}
 use Rattle.table.specs.Checks.{tableRefusal, profileRefusal}
-use Rattle.table.specs.Outputs.{roomRefusal, written, joined}
 
 module _ (counts : List ℕ) (payoffs : List Float) where
   -- the equilibria of the whole table, in profile order

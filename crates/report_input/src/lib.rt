@@ -5,7 +5,7 @@ use table::MAX_PLAYERS;
 ghost use mathlib.Core.Path.{_≡_};
 ghost use lib.ListN.{length};
 ghost use Rattle.refusal.specs.Told.{toldUsize, toldOf};
-ghost use Rattle.table.specs.Outputs.{writtenOf, over};
+ghost use Rattle.written_lists.specs.Outputs.{writtenOf, over};
 ghost use Rattle.report_input.specs.Input.{inputTable};
 
 // The most cells.

@@ -14,11 +14,11 @@ use Rattle.game.specs.Solution.{equilibrium, equilibria}
 use Rattle.game.proofs.Finite.{filter-at-most}
 use Rattle.game.proofs.Game.{length-profiles}
 use Rattle.game.proofs.Solution.{equilibria-law}
+use Rattle.written_lists.specs.Outputs.{over}
 use Rattle.utility.specs.Order.{finite}
 use Rattle.table.specs.Limits.{maxStrategies, maxMarks}
 use Rattle.table.specs.Table.{offset, tableGame, profilePart}
 use Rattle.table.specs.Meaning.{Table}
-use Rattle.table.specs.Outputs.{over}
 use Rattle.table.proofs.Table.{part-within, part-length}
 use Rattle.pure_nash.specs.Answers.{tableEquilibria}
 use Rattle.outputs.proofs.Put.{sets-all}

@@ -7,6 +7,8 @@ use native.Mathlib.Omega.{arith}
 use lib.ListN.{length, take, drop}
 use lib.Seq.{take-at, length-take-le}
 use lib.Ieee.{Float}
+use Rattle.written_lists.specs.Outputs.{writtenOf, over}
+use Rattle.written_lists.proofs.Outputs.{over-length}
 use Rattle.io.specs.Counts.{Counts}
 use Rattle.refusal.specs.Refusal.{Refusal}
 use Rattle.refusal.specs.Told.{Told, values, refused, toldOf, unless}
@@ -14,8 +16,6 @@ use Rattle.refusal.proofs.Told.{apart, told-of, told-values}
 use Rattle.table.specs.Limits.{maxPlayers}
 use Rattle.table.specs.Table.{cells}
 use Rattle.table.specs.Meaning.{Table}
-use Rattle.table.specs.Outputs.{writtenOf, over}
-use Rattle.table.proofs.Outputs.{over-length}
 use Rattle.words.specs.Words.{Bytes, wordsOf}
 use Rattle.deposit.specs.Deposit.{countsIn, payoffsIn}
 use Rattle.outputs.proofs.Put.{past-all, sets-all}

@@ -6,10 +6,10 @@ use Prim.Native.Nat.{ℕ}
 use lib.ListN.{take}
 use lib.Ieee.{Float}
 use Rattle.refusal.specs.Told.{refused}
+use Rattle.written_lists.specs.Outputs.{written, over}
+use Rattle.written_lists.proofs.Outputs.{refused-kept}
 use Rattle.utility.specs.Value.{valueOf}
 use Rattle.table.specs.Table.{payoffAt}
-use Rattle.table.specs.Outputs.{written, over}
-use Rattle.table.proofs.Outputs.{refused-kept}
 use Rattle.best_response.specs.Answers.{against, responses, responsesWritten, responseUtilities}
 use Rattle.response_list.specs.Responses.{response, recordsAnswer, recordsWritten}
 use Rattle.response_list.specs.declared.BestResponse.{BestResponse}

@@ -16,15 +16,15 @@ use Rattle.refusal.specs.Refusal.{Refusal, numberOf, _then_}
 use Rattle.refusal.specs.Told.{Told, values, refused, unless}
 use Rattle.refusal.proofs.Refusal.{then-none, then-assoc}
 use Rattle.refusal.proofs.Told.{apart, told-values}
+use Rattle.written_lists.specs.Outputs.{roomRefusal, written, over}
+use Rattle.written_lists.proofs.Outputs.{first-short, room-fits, over-next}
 use Rattle.utility.specs.Order.{finite}
 use Rattle.utility.specs.Value.{valueOf}
 use Rattle.utility.specs.declared.Utility.{Utility}
 use Rattle.table.specs.Limits.{maxStrategies}
 use Rattle.table.specs.Table.{payoffAt, tableGame}
 use Rattle.table.specs.Checks.{tableRefusal, playerRefusal}
-use Rattle.table.specs.Outputs.{roomRefusal, written, over}
 use Rattle.table.proofs.Offsets.{cell-below, getD-map, getD-mem}
-use Rattle.table.proofs.Outputs.{first-short, room-fits, over-next}
 use Rattle.best_response.specs.Answers.{against, opponentsRefusal, responses, responseUtilities, responsesAnswer, responsesWritten}
 use Rattle.best_response.proofs.Opponents.{Accepted, accepted-law}
 use Rattle.best_response.proofs.Responses.{accepted-profile, responses-below}

@@ -17,7 +17,7 @@ use Rattle.refusal.specs.declared.NormalFormError.the-variants.{OutputTooShort}
 use Rattle.refusal.proofs.Refusal.{some-none, when-none, then-none}
 use Rattle.refusal.proofs.Told.{told-values, told-refused, told-of}
 use Rattle.table.specs.Checks.{tableRefusal}
-use Rattle.table.specs.Outputs.{writtenOf, over}
+use Rattle.written_lists.specs.Outputs.{writtenOf, over}
 use Rattle.table.proofs.Checks.{table-law}
 use Rattle.words.specs.Words.{Bytes, wordsOf}
 use Rattle.deposit.specs.Deposit.{deposit, fileOf, countsIn, payoffsIn, readRefusal, tableOf}

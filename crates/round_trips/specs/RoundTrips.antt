@@ -6,7 +6,7 @@ use lib.Ieee.{Float}
 use Rattle.refusal.specs.Refusal.{_then_}
 use Rattle.refusal.specs.Told.{Told, unless}
 use Rattle.table.specs.Checks.{tableRefusal}
-use Rattle.table.specs.Outputs.{shortRefusal}
+use Rattle.written_lists.specs.Outputs.{shortRefusal}
 use Rattle.deposit.specs.Deposit.{deposit, readRefusal}
 
 -- the table itself, for every table with none of refusals 1 to 7, where the file, the counts and the payoffs have room; else 1 to 7, or 13

@@ -10,7 +10,7 @@ use refusal::UsizeResult;
 ghost use mathlib.Core.Path.{_≡_};
 ghost use lib.ListN.{length};
 ghost use Rattle.refusal.specs.Told.{toldUsize, toldOf};
-ghost use Rattle.table.specs.Outputs.{writtenOf, over};
+ghost use Rattle.written_lists.specs.Outputs.{writtenOf, over};
 ghost use Rattle.deposit.specs.Answers.{readCounts, readPayoffs, writeBytes};
 ghost use Rattle.round_trips.specs.RoundTrips.{writtenRead, readWritten};
 

@@ -20,9 +20,10 @@ use Rattle.game.proofs.Sorted.{lists-iff, lists-filter, first-law, below-law, l
 use Rattle.game.proofs.Solution.{bestResponse-law}
 use Rattle.table.specs.Limits.{maxStrategies}
 use Rattle.table.specs.Table.{offset, stride, cellRank, tableGame}
-use Rattle.table.specs.Marks.{marked}
 use Rattle.table.specs.Meaning.{Shape}
-use Rattle.table.proofs.Walk.{row-pay, mark-at}
+use Rattle.table.proofs.Walk.{row-pay}
+use Rattle.marks.specs.Marks.{marked}
+use Rattle.marks.proofs.Marks.{mark-at}
 use Rattle.strategy_row.specs.Row.{orZero, rowUnexceeded, rowBest, rowBests, rowReaching, rowLowest}
 
 -- strategy 0's cell

@@ -11,12 +11,12 @@ use Rattle.game.specs.Finite.{below}
 use Rattle.game.specs.Game.{Game, Marks, whole}
 use Rattle.game.specs.Solution.{dominator}
 use Rattle.game.proofs.Finite.{below-last, flatMap-last}
+use Rattle.written_lists.specs.Outputs.{over}
+use Rattle.written_lists.proofs.Outputs.{over-length, over-more}
 use Rattle.table.specs.Limits.{maxStrategies}
 use Rattle.table.specs.Table.{tableGame}
 use Rattle.table.specs.Meaning.{Shape}
-use Rattle.table.specs.Outputs.{over}
 use Rattle.strict_dominance.specs.Answers.{DominatedStrategy, beside, dominatedOf, strategiesOf, dominatorsOf, dominatedStrategies}
-use Rattle.table.proofs.Outputs.{over-length, over-more}
 
 -- ---- one strategy after the other
 

@@ -15,8 +15,8 @@ use Rattle.game.proofs.Finite.{below-mem, of-flatMap, to-flatMap}
 use Rattle.game.proofs.Sorted.{sorted-flatMap, sorted-below, lowest-some, lists-iff}
 use Rattle.game.proofs.Solution.{dominator-law}
 use Rattle.refusal.specs.Told.{refused}
-use Rattle.table.specs.Outputs.{over}
-use Rattle.table.proofs.Outputs.{refused-kept}
+use Rattle.written_lists.specs.Outputs.{over}
+use Rattle.written_lists.proofs.Outputs.{refused-kept}
 use Rattle.strict_dominance.specs.Answers.{DominatedStrategy, beside, dominatedOf, strategiesOf, dominatorsOf, dominatedAnswer, writtenOf, dominatedWritten}
 
 -- ascending by strategy

@@ -19,10 +19,11 @@ use Rattle.game.proofs.Finite.{le-or-lt}
 use Rattle.game.proofs.Game.{set-profile}
 use Rattle.table.specs.Limits.{maxPlayers, maxStrategies, maxCells, maxMarks}
 use Rattle.table.specs.Table.{cells, offset, stride, cellRank, tableGame}
-use Rattle.table.specs.Marks.{marked}
 use Rattle.table.specs.Meaning.{Shape, Table}
 use Rattle.table.proofs.Offsets.{product-drop, drop-at-most, stride-positive, offset-below, offset-choice, nth-choice, nth-profile, nth-offset}
-use Rattle.table.proofs.Walk.{shape-some, shape-room, row-inside, row-pay, row-start, mark-at, mark-inside}
+use Rattle.table.proofs.Walk.{shape-some, shape-room, row-inside, row-pay, row-start}
+use Rattle.marks.specs.Marks.{marked}
+use Rattle.marks.proofs.Marks.{mark-at, mark-inside}
 use Rattle.marked_rows.specs.Rows.{Seen, MarkedRow, NextRow}
 
 -- ---- where rows start: for a player with c strategies and stride s, at the first s offsets of every c × s

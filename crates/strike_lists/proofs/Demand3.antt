@@ -13,13 +13,13 @@ use Rattle.game.specs.Strikes.{run, runFrom}
 use Rattle.game.proofs.Demand3 as Theory
 use Rattle.refusal.specs.Refusal.{Refusal}
 use Rattle.refusal.specs.Told.{Told, values, status}
+use Rattle.written_lists.specs.Outputs.{roomRefusal, joined, over}
+use Rattle.written_lists.proofs.Outputs.{room-fits}
 use Rattle.table.specs.Table.{profilePart, tableGame}
 use Rattle.table.specs.Meaning.{Table}
 use Rattle.table.specs.Checks.{tableRefusal}
-use Rattle.table.specs.Outputs.{roomRefusal, joined, over}
 use Rattle.table.proofs.Checks.{table-law}
 use Rattle.table.proofs.Game.{game-playable}
-use Rattle.table.proofs.Outputs.{room-fits}
 use Rattle.pure_nash.specs.Answers.{tableEquilibria, listingAnswer, listedChoices, listedUtilities, equilibriaAnswer, equilibriaChoices, equilibriaUtilities}
 use Rattle.pure_nash.proofs.Listing.{same-answer, same-choices, same-utilities}
 use Rattle.survivors.specs.declared.Survivors.{Survivors}

@@ -18,8 +18,8 @@ use Rattle.refusal.specs.Refusal.{numberOf}
 use Rattle.refusal.specs.Told.{Told, values, refused, status, tells}
 use Rattle.refusal.specs.declared.NormalFormError.{NormalFormError}
 use Rattle.refusal.proofs.Told.{told-refused}
-use Rattle.table.specs.Outputs.{over}
-use Rattle.table.proofs.Outputs.{over-length, over-more}
+use Rattle.written_lists.specs.Outputs.{over}
+use Rattle.written_lists.proofs.Outputs.{over-length, over-more}
 use Rattle.survivors.specs.declared.Survivors.{Survivors}
 use Rattle.survivors.specs.Survivors.{freshOf, noSurvivors}
 use Rattle.survivor_calls.specs.Answers.{strikeAnswer, strikeLeaves}

@@ -21,7 +21,7 @@ ghost use Rattle.game.specs.Finite.{sum};
 ghost use Rattle.game.specs.Game.{strategy as named};
 ghost use Rattle.refusal.specs.Told.{toldUsize, values, refused, tells, unlessRefused};
 ghost use Rattle.table.specs.Checks.{tableRefusal};
-ghost use Rattle.table.specs.Outputs.{over};
+ghost use Rattle.written_lists.specs.Outputs.{over};
 ghost use Rattle.pure_nash.specs.Answers.{equilibriaAnswer, equilibriaChoices, equilibriaUtilities};
 ghost use Rattle.survivors.specs.Survivors.{freshOf, noSurvivors, markCount};
 ghost use Rattle.survivor_calls.specs.Answers.{strikeAnswer, strikeLeaves, survivingAnswer, survivingChoices, survivingUtilities};

@@ -17,8 +17,8 @@ use Rattle.refusal.specs.Refusal.{when}
 use Rattle.refusal.specs.declared.NormalFormError.the-variants.{ForeignSurvivors}
 use Rattle.refusal.proofs.Refusal.{when-none}
 use Rattle.table.specs.Limits.{maxPlayers, maxStrategies}
-use Rattle.table.specs.Marks.{marked}
-use Rattle.table.proofs.Walk.{mark-past}
+use Rattle.marks.specs.Marks.{marked}
+use Rattle.marks.proofs.Marks.{mark-past}
 use Rattle.survivors.specs.declared.Survivors.{Survivors}
 use Rattle.survivors.specs.Survivors.{marksOf, markedFrom, samePlayers, sameCounts, eachMarked, nonePast, foreign, foreignRefusal}
 use Rattle.survivors.specs.Meaning.{Own}

@@ -21,12 +21,12 @@ use Rattle.game.proofs.Finite.{length-below, length-flatMap, sum-equal, le-or-l
 use Rattle.game.proofs.Strikes.{without-law}
 use Rattle.table.specs.Limits.{maxPlayers, maxStrategies, maxMarks}
 use Rattle.table.specs.Table.{tableGame}
-use Rattle.table.specs.Marks.{markPlace, marked}
 use Rattle.table.specs.Meaning.{Shape}
 use Rattle.table.proofs.Offsets.{getD-map, getD-flatMap, getD-below, digits}
 use Rattle.table.specs.Answers.{places, spaceOf}
 use Rattle.table.proofs.Space.{past, space-count}
-use Rattle.table.proofs.Walk.{mark-at, mark-past, mark-inside}
+use Rattle.marks.specs.Marks.{markPlace, marked}
+use Rattle.marks.proofs.Marks.{mark-at, mark-past, mark-inside}
 use Rattle.survivors.specs.declared.Survivors.{Survivors}
 use Rattle.survivors.specs.Survivors.{marksOf, withoutMark, markCount, allMarks, freshOf}
 

@@ -11,8 +11,8 @@ ghost use lib.ListN.{length};
 ghost use Rattle.game.specs.Game.{strategy as named};
 ghost use Rattle.refusal.specs.Told.{toldUnit, unless, unlessRefused};
 ghost use Rattle.table.specs.Limits.{maxPlayers, maxStrategies, maxMarks};
-ghost use Rattle.table.specs.Marks.{marked};
 ghost use Rattle.table.specs.Checks.{tableRefusal};
+ghost use Rattle.marks.specs.Marks.{marked};
 ghost use Rattle.survivors.specs.Survivors.{withoutMark, allMarks, freshOf, noSurvivors, markedFrom, foreign};
 
 // The survivors of a table, document 01's term: P, the counts, and a mark for each strategy that survives, as many places to a player as

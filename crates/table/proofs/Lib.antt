@@ -4,7 +4,6 @@ pub mod Checks
 pub mod Space
 pub mod Offsets
 pub mod Table
-pub mod Outputs
 pub mod Walk
 pub mod Game
 pub mod Examples

@@ -1,24 +1,17 @@
--- What a walk over a table cites: the strides of the players from the last one down, the row of a player's cells against given choices of
--- the others, the place of a mark, and that marks on every place are the whole game's. Assumes nothing.
+-- What a walk over a table cites: the strides of the players from the last one down, and the row of a player's cells against given choices
+-- of the others. Assumes nothing.
 use mathlib.Core.Path.{_≡_, refl, sym, ap, _∙_}
-use mathlib.Core.Bool.{Bool, true, false, _&&_}
 use mathlib.Core.List.{List, []}
 use Prim.Native.Nat.{ℕ, suc, _+_, _*_, _-_, _/_, _%_, _≤_, _<_}
 use native.Mathlib.Nat.{mul-comm, mul-assoc, add-mul, zero-mul, le-mul-of-pos-right, mul-le-mul-right, le-trans}
 use native.Mathlib.Omega.{arith}
-use borrow.Author.Tests.{le-ltb}
-use lib.Arith.{digits-lt}
-use lib.Dec.{ltb, lt→ltb}
-use lib.ListN.{length, getD, set, take, drop, replicate, getD-replicate}
+use lib.ListN.{length, getD, set, take, drop}
 use lib.Ieee.{Float}
 use Rattle.game.specs.Finite.{product}
-use Rattle.game.specs.Game.{Profile, profiles, whole}
-use Rattle.game.specs.Ordinal.{SameMarks}
-use Rattle.game.proofs.Finite.{test-true}
-use Rattle.game.proofs.Game.{set-profile, whole-law}
-use Rattle.table.specs.Limits.{maxPlayers, maxStrategies, maxCells, maxMarks}
+use Rattle.game.specs.Game.{Profile, profiles}
+use Rattle.game.proofs.Game.{set-profile}
+use Rattle.table.specs.Limits.{maxPlayers, maxStrategies, maxCells}
 use Rattle.table.specs.Table.{cells, offset, stride, cell, payoffAt, cellRank, tableGame}
-use Rattle.table.specs.Marks.{marked}
 use Rattle.table.specs.Meaning.{Shape}
 use Rattle.table.proofs.Products.{product-positive}
 use Rattle.table.proofs.Offsets.{product-drop, take-at-most, drop-at-most, drop-positive, offset-so-far, offset-set, cell-below, walk-base}
@@ -98,30 +91,3 @@ module _ {cs x : List ℕ} (p : ℕ) (r : Profile cs x) (mine : p < length cs) (
 pub row-start : (cs : List ℕ) (k p : ℕ) → k < product cs → p < length cs → 0 < getD cs p 0
     → k - k / stride cs p % getD cs p 0 * stride cs p ≡ offset cs (set (getD (profiles cs) k []) p 0)
 row-start cs k p h l some = omega (arith, walk-base cs k p h l 0 some, zero-mul (stride cs p))
-
--- ---- marks
-
--- A strategy below the limit has its mark at its place.
-pub mark-at : (marks : List Bool) (p s : ℕ) → s < maxStrategies → marked marks p s ≡ getD marks (p * maxStrategies + s) false
-unfolding marked
-mark-at marks p s h =
-    ap (λ (t : Bool). t && getD marks (p * maxStrategies + s) false) (test-true (ltb s maxStrategies) (lt→ltb s maxStrategies h))
-
--- One past the player's places has none.
-pub mark-past : (marks : List Bool) (p s : ℕ) → maxStrategies ≤ s → marked marks p s ≡ false
-unfolding marked
-mark-past marks p s h = ap (λ (t : Bool). t && getD marks (p * maxStrategies + s) false) (le-ltb s maxStrategies h)
-
--- The places of the players are within the list of marks.
-pub mark-inside : (p s : ℕ) → p < maxPlayers → s < maxStrategies → p * maxStrategies + s < maxMarks
-mark-inside p s h l = digits-lt h l
-
--- With a mark on every place, every strategy of the game is marked.
-pub marks-whole : (counts : List ℕ) (payoffs : List Float) → Shape counts
-    → SameMarks (tableGame counts payoffs) (marked (replicate maxMarks true)) (whole (tableGame counts payoffs))
-unfolding tableGame
-marks-whole counts payoffs h p s l k =
-    let under : s < maxStrategies = omega (arith, h .high p l) in
-    let e : marked (replicate maxMarks true) p s ≡ true =
-    mark-at (replicate maxMarks true) p s under ∙ getD-replicate maxMarks (p * maxStrategies + s) true false (mark-inside p s (omega (arith, h .few)) under) in
-    (λ _. whole-law (tableGame counts payoffs) p s .1 k, λ _. rw e tt)

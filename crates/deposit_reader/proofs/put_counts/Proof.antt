@@ -6,8 +6,8 @@ use native.Mathlib.Omega.{arith}
 use borrow.Author.Needs.{needs}
 use lib.ListN.{length, take}
 use lib.Seq.{take-all, length-take-le}
-use Rattle.table.specs.Outputs.{over}
-use Rattle.table.proofs.Outputs.{over-length, over-next}
+use Rattle.written_lists.specs.Outputs.{over}
+use Rattle.written_lists.proofs.Outputs.{over-length, over-next}
 use Rattle.words.specs.Words.{wordsOf}
 use Rattle.deposit.specs.Deposit.{countsIn}
 use Rattle.deposit.proofs.Tables.{counts-length, counts-at}

@@ -6,8 +6,8 @@ use native.Mathlib.Omega.{arith}
 use lib.ListN.{length, getD, take}
 use lib.Seq.{take-all, length-take-le}
 use lib.Ieee.{nan}
-use Rattle.table.specs.Outputs.{over}
-use Rattle.table.proofs.Outputs.{over-length, over-next}
+use Rattle.written_lists.specs.Outputs.{over}
+use Rattle.written_lists.proofs.Outputs.{over-length, over-next}
 use Rattle.words.specs.Words.{wordsOf}
 use Rattle.deposit.specs.Deposit.{payoffsIn, cellPlace, payoffIn}
 use Rattle.deposit.proofs.Tables.{payoffs-length, payoffs-at}

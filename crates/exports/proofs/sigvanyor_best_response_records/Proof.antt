@@ -44,7 +44,7 @@ use Rattle.refusal.specs.Told.{Told, toldUsize, status}
 use Rattle.refusal.specs.declared.UsizeResult.{UsizeResult}
 use Rattle.refusal.proofs.UsizeResult as U
 use Rattle.refusal.proofs.UsizeResult.Laws as U′
-use Rattle.table.specs.Outputs.{over}
+use Rattle.written_lists.specs.Outputs.{over}
 use Rattle.c_outputs.specs.Status.{output}
 use Rattle.c_outputs.proofs.usize_into as into
 use Rattle.c_outputs.proofs.usize_into.Symbol as into-def

@@ -51,12 +51,12 @@ use denote.Triple.Table.{entered, cited}
 use denote.Triple.Walked.{says, Stays, stay-dropped, walkOf, goes-dropped, Walks, ends-at, walked, walk-meets}
 use denote.Exit.{yes}
 use denote.Triple.Clauses.{Lasts, ensured, lasts}
+use Rattle.written_lists.specs.Outputs.{over}
 use Rattle.table.specs.Limits.{maxPlayers, maxStrategies}
 use Rattle.refusal.specs.Told.{toldUsize}
 use Rattle.refusal.specs.declared.UsizeResult.{UsizeResult}
 use Rattle.refusal.proofs.UsizeResult as U
 use Rattle.refusal.proofs.UsizeResult.Laws as U′
-use Rattle.table.specs.Outputs.{over}
 use Rattle.view_fields.specs.Counts.{firstCounts}
 use Rattle.response_list.specs.Responses.{recordsAnswer, recordsWritten}
 use Rattle.response_list.specs.declared.BestResponse.{BestResponse}

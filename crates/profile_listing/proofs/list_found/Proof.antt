@@ -11,9 +11,9 @@ use Rattle.game.specs.Game.{profiles}
 use Rattle.game.proofs.Game.{length-profiles}
 use Rattle.refusal.specs.Told.{values}
 use Rattle.refusal.specs.declared.NormalFormError.the-variants.{OutputTooShort}
+use Rattle.written_lists.specs.Outputs.{over}
+use Rattle.written_lists.proofs.Outputs.{first-short, second-short, room-fits}
 use Rattle.table.specs.Limits.{maxCells}
-use Rattle.table.specs.Outputs.{over}
-use Rattle.table.proofs.Outputs.{first-short, second-short, room-fits}
 use Rattle.profile_listing.specs.Chosen.{chosen}
 use Rattle.profile_listing.proofs.Listing.{found-many, chosen-most, found-fits, found-short}
 use borrow.Author.Needs.{needs}

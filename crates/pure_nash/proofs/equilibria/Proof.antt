@@ -10,12 +10,12 @@ use Rattle.game.specs.Game.{whole}
 use Rattle.refusal.specs.Refusal.{Refusal}
 use Rattle.refusal.specs.Told.{toldUsize, refused}
 use Rattle.refusal.proofs.Told.{told-refused}
+use Rattle.written_lists.specs.Outputs.{over}
 use Rattle.table.specs.Limits.{maxMarks}
 use Rattle.table.specs.Table.{tableGame}
-use Rattle.table.specs.Marks.{marked}
 use Rattle.table.specs.Checks.{tableRefusal}
-use Rattle.table.specs.Outputs.{over}
 use Rattle.table.proofs.Table.{TableTold, table-told}
+use Rattle.marks.specs.Marks.{marked}
 use Rattle.pure_nash.specs.Answers.{listingAnswer, listedChoices, listedUtilities}
 use Rattle.pure_nash.proofs.Listing.{same-answer, same-choices, same-utilities, listing-refused}
 use Rattle.pure_nash.proofs.Laws.{whole-equilibria}

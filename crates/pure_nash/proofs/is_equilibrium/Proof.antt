@@ -18,12 +18,12 @@ use Rattle.refusal.proofs.Refusal.{then-none}
 use Rattle.refusal.proofs.Told.{told-values, refused-again}
 use Rattle.table.specs.Limits.{maxMarks}
 use Rattle.table.specs.Table.{offset, tableGame}
-use Rattle.table.specs.Marks.{marked}
 use Rattle.table.specs.Meaning.{Table}
 use Rattle.table.specs.Checks.{tableRefusal, profileRefusal}
 use Rattle.table.specs.Answers.{offsetAnswer}
 use Rattle.table.proofs.Checks.{table-law, profile-law}
 use Rattle.table.proofs.Offsets.{offset-below, nth-offset}
+use Rattle.marks.specs.Marks.{marked}
 use Rattle.equilibrium_search.proofs.Known.{known-none}
 use Rattle.equilibrium_search.proofs.Rows.{equilibrium-settled}
 use Rattle.pure_nash.specs.Answers.{isEquilibriumAnswer}

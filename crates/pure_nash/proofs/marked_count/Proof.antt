@@ -9,8 +9,8 @@ use Rattle.game.specs.Finite.{below, product}
 use Rattle.game.specs.Solution.{equilibria}
 use Rattle.table.specs.Limits.{maxCells}
 use Rattle.table.specs.Table.{tableGame}
-use Rattle.table.specs.Marks.{marked}
 use Rattle.table.proofs.Walk.{shape-room}
+use Rattle.marks.specs.Marks.{marked}
 use Rattle.equilibrium_search.specs.Found.{Found}
 use Rattle.equilibrium_search.proofs.Known.{known-none}
 use Rattle.profile_listing.specs.Chosen.{chosen}

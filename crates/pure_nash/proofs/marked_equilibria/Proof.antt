@@ -10,11 +10,11 @@ use lib.Ieee.{Float}
 use Rattle.game.specs.Finite.{product}
 use Rattle.game.specs.Game.{profiles}
 use Rattle.game.specs.Solution.{equilibria}
+use Rattle.written_lists.specs.Outputs.{over}
 use Rattle.table.specs.Limits.{maxCells}
 use Rattle.table.specs.Table.{tableGame}
-use Rattle.table.specs.Marks.{marked}
-use Rattle.table.specs.Outputs.{over}
 use Rattle.table.proofs.Walk.{shape-room}
+use Rattle.marks.specs.Marks.{marked}
 use Rattle.equilibrium_search.proofs.Known.{known-none}
 use Rattle.profile_listing.specs.Chosen.{chosen}
 use Rattle.pure_nash.proofs.Listing.{fewCells, few-profiles, found-all, found-answer, found-choices, found-utilities}

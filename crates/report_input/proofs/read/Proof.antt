@@ -9,8 +9,8 @@ use lib.ListN.{length}
 use lib.Ieee.{Float}
 use Rattle.refusal.specs.Refusal.{numberOf}
 use Rattle.refusal.specs.Told.{toldUsize, refused}
+use Rattle.written_lists.specs.Outputs.{writtenOf, over}
 use Rattle.table.specs.Limits.{maxPlayers}
-use Rattle.table.specs.Outputs.{writtenOf, over}
 use Rattle.deposit.specs.Answers.{readAnswer}
 use Rattle.report_input.specs.Input.{maxReportCells, maxFileBytes, inputTable}
 use Rattle.report_input.proofs.Input.{over-told, counts-written, payoffs-written, players-told, short-told, refused-told}

@@ -45,8 +45,8 @@ use Rattle.refusal.specs.Told.{toldUsize}
 use Rattle.refusal.specs.declared.UsizeResult.{UsizeResult}
 use Rattle.refusal.proofs.UsizeResult as U
 use Rattle.refusal.proofs.UsizeResult.Laws as U′
+use Rattle.written_lists.specs.Outputs.{over, written}
 use Rattle.table.specs.Limits.{maxStrategies}
-use Rattle.table.specs.Outputs.{over, written}
 use Rattle.response_list.specs.Responses.{response, recordsAnswer, recordsWritten}
 use Rattle.response_list.specs.declared.BestResponse.{BestResponse}
 use Rattle.response_list.specs.declared.Found.{Found}

@@ -50,11 +50,11 @@ use denote.Triple.Table.{entered}
 use denote.Triple.Walked.{says, needs, Stays, stay-dropped, stay-slice, walkOf, goes-dropped, goes-slice, Walks, ends-at, walked, walk-meets}
 use denote.Exit.{yes}
 use denote.Signature.{plain}
+use Rattle.written_lists.specs.Outputs.{over}
+use Rattle.written_lists.proofs.Outputs.{over-length, over-next}
 use Rattle.table.specs.Limits.{maxStrategies}
 use Rattle.refusal.proofs.UsizeResult as U
 use Rattle.refusal.proofs.UsizeResult.Laws as U′
-use Rattle.table.specs.Outputs.{over}
-use Rattle.table.proofs.Outputs.{over-length, over-next}
 use Rattle.response_list.specs.Responses.{response}
 use Rattle.response_list.specs.declared.BestResponse.{BestResponse}
 use Rattle.response_list.specs.declared.Found.{Found}

@@ -14,9 +14,9 @@ use Rattle.refusal.proofs.Told.{apart, told-values}
 use Rattle.table.specs.Limits.{maxCells}
 use Rattle.table.specs.Meaning.{Table}
 use Rattle.table.specs.Answers.{countsAnswer}
-use Rattle.table.specs.Outputs.{over}
+use Rattle.written_lists.specs.Outputs.{over}
 use Rattle.table.proofs.Checks.{counts-law}
-use Rattle.table.proofs.Outputs.{over-length}
+use Rattle.written_lists.proofs.Outputs.{over-length}
 use Rattle.words.specs.Words.{Bytes, wordsOf}
 use Rattle.deposit.specs.Deposit.{countsIn, payoffsIn, readRefusal}
 use Rattle.deposit.specs.Answers.{writeAnswer, writeBytes}

@@ -9,8 +9,8 @@ use lib.ListN.{length, take}
 use lib.Ieee.{Float}
 use Rattle.refusal.specs.Told.{toldUsize}
 use Rattle.table.specs.Checks.{tableRefusal}
-use Rattle.table.specs.Outputs.{over}
-use Rattle.table.proofs.Outputs.{over-length}
+use Rattle.written_lists.specs.Outputs.{over}
+use Rattle.written_lists.proofs.Outputs.{over-length}
 use Rattle.deposit.specs.Deposit.{deposit}
 use Rattle.table.specs.Meaning.{Doubles}
 use Rattle.deposit.specs.Answers.{readAnswer, readCounts, readPayoffs}

@@ -16,8 +16,8 @@ use Rattle.game.proofs.Ordinal.{marks-read}
 use Rattle.refusal.specs.Told.{optionUsize}
 use Rattle.table.specs.Limits.{maxStrategies, maxMarks}
 use Rattle.table.specs.Table.{tableGame}
-use Rattle.table.specs.Marks.{marked}
-use Rattle.table.proofs.Walk.{marks-whole}
+use Rattle.marks.specs.Marks.{marked}
+use Rattle.marks.proofs.Marks.{marks-whole}
 use Rattle.strict_dominance.specs.Answers.{dominatedOf, dominatedStrategies}
 use Rattle.strict_dominance.proofs.Dominated.{dominatedBelow, dominated-more, dominated-few, Collected, first-length, second-length, collected-none, collected-some}
 use Rattle.strict_dominance.proofs.collect.Statement.{statement}

@@ -4,8 +4,8 @@ use Prim.Native.Nat.{_-_, _≤_}
 use native.Mathlib.Omega.{arith}
 use lib.ListN.{length, getD, set, take}
 use lib.Seq.{length-take-le}
-use Rattle.table.specs.Outputs.{over}
-use Rattle.table.proofs.Outputs.{over-length, over-next}
+use Rattle.written_lists.specs.Outputs.{over}
+use Rattle.written_lists.proofs.Outputs.{over-length, over-next}
 use Rattle.strict_dominance.proofs.copy_first.Statement.{statement}
 use Rattle.strict_dominance.proofs.copy_first.Tie as tie
 

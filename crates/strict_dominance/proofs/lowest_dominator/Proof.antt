@@ -22,8 +22,8 @@ use Rattle.game.proofs.Solution.{dominator-law}
 use Rattle.table.specs.Limits.{maxStrategies, maxCells, maxMarks}
 use Rattle.table.specs.Table.{tableGame, cellRank}
 use Rattle.table.specs.Meaning.{Table}
-use Rattle.table.specs.Marks.{marked}
-use Rattle.table.proofs.Walk.{mark-at, mark-inside}
+use Rattle.marks.specs.Marks.{marked}
+use Rattle.marks.proofs.Marks.{mark-at, mark-inside}
 use Rattle.marked_rows.specs.Rows.{MarkedRow, Kept}
 use Rattle.strict_dominance.proofs.Rows.{Start, first-start, start-beside, start-after, Player, player, seen-whole, Met, row-met, LessTo, less-beside, less-after, less-first, less-next, Row, row, denied, dominates-all}
 use Rattle.strict_dominance.proofs.lowest_dominator.Statement.{statement}

@@ -11,7 +11,7 @@ use Rattle.game.specs.Finite.{sum}
 use Rattle.game.specs.Game.{Strategy}
 use Rattle.refusal.specs.Told.{unlessRefused}
 use Rattle.table.specs.Checks.{tableRefusal}
-use Rattle.table.specs.Outputs.{over}
+use Rattle.written_lists.specs.Outputs.{over}
 use Rattle.survivors.specs.declared.Survivors.{Survivors}
 use Rattle.survivors.specs.Survivors.{freshOf, noSurvivors, markCount}
 use Rattle.survivor_calls.specs.Answers.{survivingAnswer, survivingChoices, survivingUtilities}

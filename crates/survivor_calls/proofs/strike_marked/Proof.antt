@@ -15,8 +15,8 @@ use Rattle.refusal.specs.Told.{optionUsize}
 use Rattle.refusal.specs.declared.UsizeOption.{UsizeOption}
 use Rattle.table.specs.Table.{tableGame}
 use Rattle.table.specs.Limits.{maxPlayers, maxStrategies, maxMarks}
-use Rattle.table.specs.Marks.{marked}
-use Rattle.table.proofs.Walk.{mark-at, mark-inside}
+use Rattle.marks.specs.Marks.{marked}
+use Rattle.marks.proofs.Marks.{mark-at, mark-inside}
 use Rattle.survivors.specs.declared.Survivors.{Survivors}
 use Rattle.survivor_calls.specs.Answers.{toldAnswer, handedBack}
 use Rattle.survivor_calls.proofs.Cases.{told-player, told-struck, told-by}

@@ -12,7 +12,7 @@ use lib.ListN.{length, getD}
 use Rattle.survivors.specs.declared.Survivors.{Survivors}
 use mathlib.Core.List.{List}
 use Rattle.table.specs.Limits.{maxPlayers}
-use Rattle.table.specs.Marks.{marked}
+use Rattle.marks.specs.Marks.{marked}
 use Rattle.survivors.specs.Survivors.{markedFrom}
 use Rattle.survivors.proofs.Foreign.{OwnTo, own-start, own-more, own-all, own-marked, own-none, foreign-past, not-own}
 use Rattle.survivors.proofs.is_foreign.Statement.{statement}

@@ -10,8 +10,8 @@ use lib.Dec.{T}
 use lib.ListN.{getD}
 use Rattle.game.proofs.Finite.{test-true, test-false}
 use Rattle.table.specs.Limits.{maxStrategies, maxMarks}
-use Rattle.table.specs.Marks.{marked}
-use Rattle.table.proofs.Walk.{mark-at, mark-inside}
+use Rattle.marks.specs.Marks.{marked}
+use Rattle.marks.proofs.Marks.{mark-at, mark-inside}
 use Rattle.survivors.proofs.Foreign.{marked-from-law}
 use Rattle.survivors.proofs.marked_from.Statement.{statement}
 use Rattle.survivors.proofs.marked_from.Tie as tie

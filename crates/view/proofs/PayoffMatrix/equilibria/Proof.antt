@@ -41,8 +41,8 @@ use denote.Triple.Walked.{says, Stays, stay-dropped, gave-slice, walkOf, goes-dr
 use denote.Exit.{yes}
 use denote.Triple.Clauses.{Lasts, ensured, lasts}
 use Rattle.refusal.specs.Told.{toldUsize}
+use Rattle.written_lists.specs.Outputs.{over}
 use Rattle.pure_nash.specs.Answers.{equilibriaAnswer, equilibriaChoices, equilibriaUtilities}
-use Rattle.table.specs.Outputs.{over}
 use Rattle.refusal.specs.declared.UsizeResult.{UsizeResult}
 use Rattle.refusal.proofs.UsizeResult as R
 use Rattle.refusal.proofs.UsizeResult.Laws as R′

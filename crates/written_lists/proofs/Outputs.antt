@@ -14,7 +14,7 @@ use lib.Seq.{drop-cons, set-append-seam, append-snoc, take-suc, length-take-le}
 use Rattle.refusal.specs.Refusal.{when, _then_}
 use Rattle.refusal.specs.Told.{Told, refused}
 use Rattle.refusal.specs.declared.NormalFormError.the-variants.{OutputTooShort}
-use Rattle.table.specs.Outputs.{roomRefusal, over}
+use Rattle.written_lists.specs.Outputs.{roomRefusal, over}
 
 module _ {A : Type 0} where
   -- The output keeps its length.

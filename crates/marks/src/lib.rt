@@ -1,0 +1,1 @@
+// The marks of strategies as a list of places: a definition and its laws, no code.
