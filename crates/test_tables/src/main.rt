@@ -150,15 +150,7 @@ fn equilibria(counts: &[usize], payoffs: &[f64], choices: &mut [usize], utilitie
 // ---- lines
 
 // Makes the call of a case, over the buffers' lists.
-fn make(
-    r: Case,
-    a: &mut [usize],
-    b: &mut [usize],
-    c: &mut [usize],
-    d: &mut [usize],
-    x: &mut [f64],
-    y: &mut [f64],
-) {
+fn make(r: Case, a: &mut [usize], b: &mut [usize], c: &mut [usize], x: &mut [f64], y: &mut [f64]) {
     let call = r.call;
     match call {
         0 => utility(r.real),
@@ -174,7 +166,7 @@ fn make(
         10 => profile_payoffs(a, x, b),
         11 => advance_profile(a, b),
         12 => best_responses(a, x, r.first, b, c, y),
-        13 => strictly_dominated_strategies(a, x, r.first, c, d),
+        13 => strictly_dominated_strategies(a, x, r.first, b, c),
         14 => told_bool(pure_nash::is_equilibrium(a, x, b)),
         15 => told_usize(pure_nash::count_equilibria(a, x)),
         16 => equilibria(a, x, c, y),
@@ -190,17 +182,15 @@ fn make_of(
     a: &mut [usize],
     b: &mut [usize],
     c: &mut [usize],
-    d: &mut [usize],
     x: &mut [f64],
     y: &mut [f64],
 ) {
     let a = read_numbers(line, r.a, a);
     let b = read_numbers(line, r.b, b);
     let c = read_numbers(line, r.c, c);
-    let d = read_numbers(line, r.d, d);
     let x = read_floats(line, r.x, words, x);
     let y = read_floats(line, r.y, words, y);
-    make(r, a, b, c, d, x, y);
+    make(r, a, b, c, x, y);
 }
 
 // A line that is no remark: its name, and what its call tells.
@@ -211,7 +201,6 @@ fn run(
     a: &mut [usize],
     b: &mut [usize],
     c: &mut [usize],
-    d: &mut [usize],
     x: &mut [f64],
     y: &mut [f64],
 ) {
@@ -222,10 +211,10 @@ fn run(
     text(b":");
     let r = read_case(
         line,
-        b"utility r4, is_finite r4, all_finite fx, compare r4r5, profile_count la, from_counts la, table_profile_count lafx, payoff_matrix lafx, offset lafxlb, payoff lafxlbn1, profile_payoffs lafxlb, advance_profile laeb, best_responses lafxn1lblcfy, strictly_dominated_strategies lafxn1lcld, is_equilibrium lafxlb, count_equilibria lafx, equilibria lafxlcfy",
+        b"utility r4, is_finite r4, all_finite fx, compare r4r5, profile_count la, from_counts la, table_profile_count lafx, payoff_matrix lafx, offset lafxlb, payoff lafxlbn1, profile_payoffs lafxlb, advance_profile laeb, best_responses lafxn1lblcfy, strictly_dominated_strategies lafxn1lblc, is_equilibrium lafxlb, count_equilibria lafx, equilibria lafxlcfy",
         words,
     );
-    make_of(line, r, words, a, b, c, d, x, y);
+    make_of(line, r, words, a, b, c, x, y);
     text(b"\n");
 }
 
@@ -237,7 +226,6 @@ fn run_all(
     a: &mut [usize],
     b: &mut [usize],
     c: &mut [usize],
-    d: &mut [usize],
     x: &mut [f64],
     y: &mut [f64],
 ) {
@@ -250,7 +238,7 @@ fn run_all(
             return;
         }
         let line = line_at(buffer, input);
-        run(line, input.remark, words, a, b, c, d, x, y);
+        run(line, input.remark, words, a, b, c, x, y);
     }
 }
 
@@ -260,7 +248,6 @@ fn main() {
     let mut a = [0; ELEMENTS];
     let mut b = [0; ELEMENTS];
     let mut c = [0; ELEMENTS];
-    let mut d = [0; ELEMENTS];
     let mut x = [0.0; ELEMENTS];
     let mut y = [0.0; ELEMENTS];
     run_all(
@@ -269,7 +256,6 @@ fn main() {
         &mut a,
         &mut b,
         &mut c,
-        &mut d,
         &mut x,
         &mut y,
     );

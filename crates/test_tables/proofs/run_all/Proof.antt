@@ -7,10 +7,10 @@ use Rattle.test_tables.proofs.run_all.Statement.{statement}
 use Rattle.test_tables.proofs.run_all.Tie as tie
 
 abbrev Inv-loop : tie.InvT-loop
-Inv-loop buffer₀ words₀ a₀ b₀ c₀ d₀ x₀ y₀ input₀ turns₀ buffer words a b c d x y input turns = (length buffer ≡ length buffer₀) × (length words ≡ length words₀) × (length a ≡ length a₀) × (length b ≡ length b₀) × (length c ≡ length c₀) × (length d ≡ length d₀) × (length x ≡ length x₀) × (length y ≡ length y₀)
+Inv-loop buffer₀ words₀ a₀ b₀ c₀ x₀ y₀ input₀ turns₀ buffer words a b c x y input turns = (length buffer ≡ length buffer₀) × (length words ≡ length words₀) × (length a ≡ length a₀) × (length b ≡ length b₀) × (length c ≡ length c₀) × (length x ≡ length x₀) × (length y ≡ length y₀)
 
 abbrev μ-loop : tie.MeasureT-loop
-μ-loop buffer₀ words₀ a₀ b₀ c₀ d₀ x₀ y₀ input₀ turns₀ buffer words a b c d x y input turns = turns
+μ-loop buffer₀ words₀ a₀ b₀ c₀ x₀ y₀ input₀ turns₀ buffer words a b c x y input turns = turns
 
 start-requires : tie.Need-start-requires Inv-loop μ-loop
 start-requires c κs = search needs
@@ -45,9 +45,6 @@ same-length-6 c = search needs
 same-length-7 : tie.Need-same-length-7 Inv-loop μ-loop
 same-length-7 c = search needs
 
-same-length-8 : tie.Need-same-length-8 Inv-loop μ-loop
-same-length-8 c = search needs
-
 returns : tie.Need-returns Inv-loop μ-loop
 returns c = search needs
 
@@ -62,6 +59,9 @@ loop-less c = search needs
 
 loop-again : tie.Need-loop-again Inv-loop μ-loop
 loop-again c = search needs
+
+same-length-8 : tie.Need-same-length-8 Inv-loop μ-loop
+same-length-8 c = search needs
 
 same-length-9 : tie.Need-same-length-9 Inv-loop μ-loop
 same-length-9 c = search needs
@@ -80,12 +80,6 @@ same-length-13 c = search needs
 
 same-length-14 : tie.Need-same-length-14 Inv-loop μ-loop
 same-length-14 c = search needs
-
-same-length-15 : tie.Need-same-length-15 Inv-loop μ-loop
-same-length-15 c = search needs
-
-same-length-16 : tie.Need-same-length-16 Inv-loop μ-loop
-same-length-16 c = search needs
 
 returns-2 : tie.Need-returns-2 Inv-loop μ-loop
 returns-2 c = search needs
@@ -107,18 +101,16 @@ run-all-spec =
     same-length-5
     same-length-6
     same-length-7
-    same-length-8
     returns
     line-at-requires
     run-requires
     loop-less
     loop-again
+    same-length-8
     same-length-9
     same-length-10
     same-length-11
     same-length-12
     same-length-13
     same-length-14
-    same-length-15
-    same-length-16
     returns-2)
