@@ -167,5 +167,5 @@ def number(counts, payoffs):
 
 
 def strictly_ranked(first, second):
-    """Whether each player's four numbers are the ranks 0 to 3, each once."""
-    return sorted(first) == [0, 1, 2, 3] and sorted(second) == [0, 1, 2, 3]
+    """Whether no two numbers of the same player are equal."""
+    return len(set(first)) == 4 and len(set(second)) == 4

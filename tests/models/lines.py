@@ -91,8 +91,7 @@ def stepped_number(first, index, step):
 
 
 def stepped_real(first, index, step):
-    product = float(index) * step
-    return first + product
+    return first + float(index) * step if index else first
 
 
 def split_items(text):

@@ -428,10 +428,10 @@ fn take_run(
     next
 }
 
-// The run whose first element comes at a place: n elements.
+// The run whose first element comes at a place: n elements. A step may come only after `n*`.
 fn read_run(s: &[u8], r: Reading, at: usize, n: usize, floats: bool, out: &mut [usize]) -> Reading {
     let first = read_element(s, at, floats);
-    let steps = byte_at(s, first.at) == b'+';
+    let steps = (at != r.at) & (byte_at(s, first.at) == b'+');
     let mut last = first;
     if steps {
         last = read_element(s, after(first.at), floats);
@@ -752,7 +752,7 @@ pub fn read_case(line: &[u8], table: &[u8], words: &mut [usize]) -> Case
     ensures { λ _. ⌜ length (now (words .exit)) ≡ length (now (words .entry)) ⌝ }
 {
     let call = call_of(line, table);
-    if call == UNREADABLE {
+    if (call == UNREADABLE) | (name(line).len() == 0) {
         return no_case(UNREADABLE);
     }
     let arguments = piece(piece(table, call, b','), 1, b' ');

@@ -1,4 +1,5 @@
 // Survivors, and the answers beside them, as the test programs print them; and survivors of numbers.
+ghost use mathlib.Core.Path.{_≡_};
 use survivor_calls::StrikeResult;
 use survivors::FreshResult;
 use survivors::Survivors;
@@ -72,7 +73,9 @@ fn is_marked(marks: &[usize], at: usize) -> bool {
 }
 
 // The survivors with P, these counts and these marks, each of which is a number that is not 0.
-pub fn survivors_of(players: usize, counts: [usize; MAX_PLAYERS], list: &[usize]) -> Survivors {
+pub fn survivors_of(players: usize, counts: [usize; MAX_PLAYERS], list: &[usize]) -> Survivors
+    ensures { λ r. ⌜ (r .players ≡ players) × (r .counts ≡ counts) ⌝ }
+{
     let mut marks = [false; MAX_MARKS];
     let mut i = 0;
     while i < MAX_MARKS {
@@ -87,7 +90,9 @@ pub fn survivors_of(players: usize, counts: [usize; MAX_PLAYERS], list: &[usize]
 }
 
 // Those of no players, with counts 0 and no mark.
-pub fn none() -> Survivors {
+pub fn none() -> Survivors
+    ensures { λ r. ⌜ r .players ≡ 0 ⌝ }
+{
     Survivors {
         players: 0,
         counts: [0; MAX_PLAYERS],
