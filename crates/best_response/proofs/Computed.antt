@@ -7,9 +7,9 @@ use Rattle.game.specs.Solution.{gains, bestResponse, bestResponses}
 use Rattle.refusal.specs.Told.{values, refused}
 use Rattle.written_lists.specs.Outputs.{roomRefusal, over}
 use Rattle.utility.specs.Order.{finite, key, rank}
-use Rattle.table.specs.Table.{offset, payoffAt, tableGame}
-use Rattle.table.specs.Checks.{countRefusal, countsRefusal, payoffsRefusal, tableRefusal, playerRefusal}
-use Rattle.table.proofs.Examples.{zeros, ties, pair, dilemma}
+use Rattle.payoff_tables.specs.Table.{offset, payoffAt, tableGame}
+use Rattle.payoff_tables.specs.Checks.{countRefusal, countsRefusal, payoffsRefusal, tableRefusal, playerRefusal}
+use Rattle.payoff_tables.proofs.Examples.{zeros, ties, pair, dilemma}
 use Rattle.best_response.specs.Answers.{opponentsRefusal, responses, responseUtilities, responsesAnswer, responsesWritten}
 
 record Computed : Type 0 where

@@ -19,9 +19,9 @@ use Rattle.written_lists.specs.Outputs.{written, over}
 use Rattle.written_lists.proofs.Outputs.{refused-kept}
 use Rattle.utility.specs.Order.{key, rank}
 use Rattle.utility.proofs.Rank.{rank-eq}
-use Rattle.table.specs.Table.{cell, payoffAt, tableGame}
-use Rattle.table.proofs.Game.{game-playable}
-use Rattle.table.proofs.Offsets.{cell-below}
+use Rattle.payoff_tables.specs.Table.{cell, payoffAt, tableGame}
+use Rattle.payoff_tables.proofs.Game.{game-playable}
+use Rattle.payoff_tables.proofs.Offsets.{cell-below}
 use Rattle.best_response.specs.Answers.{against, responses, responseUtilities, responsesAnswer, responsesWritten}
 use Rattle.best_response.proofs.Opponents.{set-against, Accepted}
 use Rattle.best_response.proofs.Responses.{accepted-profile}

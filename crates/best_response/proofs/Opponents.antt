@@ -17,9 +17,9 @@ use Rattle.game.specs.Game.{choice, Profile}
 use Rattle.refusal.specs.Refusal.{Refusal, when, _then_, each}
 use Rattle.refusal.specs.declared.NormalFormError.the-variants.{OpponentProfileCount, InvalidOpponentStrategy}
 use Rattle.refusal.proofs.Refusal.{when-none, then-none, each-none, each-some, none-each}
-use Rattle.table.specs.Meaning.{Table}
-use Rattle.table.specs.Checks.{tableRefusal, playerRefusal}
-use Rattle.table.proofs.Checks.{table-law, player-law}
+use Rattle.payoff_tables.specs.Meaning.{Table}
+use Rattle.payoff_tables.specs.Checks.{tableRefusal, playerRefusal}
+use Rattle.payoff_tables.proofs.Checks.{table-law, player-law}
 use Rattle.best_response.specs.Answers.{against, opponentsRefusal}
 
 -- ---- what stands where

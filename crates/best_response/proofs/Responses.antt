@@ -16,12 +16,12 @@ use Rattle.game.proofs.Ordinal.{marks-read}
 use Rattle.refusal.specs.Told.{Told, refused, unless}
 use Rattle.refusal.proofs.Told.{refused-first}
 use Rattle.written_lists.specs.Outputs.{roomRefusal, written, over}
-use Rattle.table.specs.Limits.{maxStrategies, maxMarks}
-use Rattle.table.specs.Table.{offset, stride, cell, payoffAt, tableGame}
-use Rattle.table.specs.Checks.{tableRefusal}
-use Rattle.table.proofs.Checks.{table-law, player-law, no-player}
-use Rattle.table.proofs.Offsets.{cell-below}
-use Rattle.table.proofs.Walk.{row-cell}
+use Rattle.payoff_tables.specs.Limits.{maxStrategies, maxMarks}
+use Rattle.payoff_tables.specs.Table.{offset, stride, cell, payoffAt, tableGame}
+use Rattle.payoff_tables.specs.Checks.{tableRefusal}
+use Rattle.payoff_tables.proofs.Checks.{table-law, player-law, no-player}
+use Rattle.payoff_tables.proofs.Offsets.{cell-below}
+use Rattle.payoff_tables.proofs.Walk.{row-cell}
 use Rattle.marks.specs.Marks.{marked}
 use Rattle.marks.proofs.Marks.{marks-whole}
 use Rattle.strategy_row.specs.Row.{rowBests, rowReaching, rowLowest}

@@ -11,9 +11,9 @@ use lib.ListN.{length, getD, take, drop}
 use lib.Seq.{drop-length}
 use Rattle.game.specs.Finite.{product}
 use Rattle.game.specs.Game.{choice}
-use Rattle.table.specs.Table.{offset, offsetFrom}
-use Rattle.table.specs.Meaning.{Shape}
-use Rattle.table.proofs.Offsets.{offset-more, offset-so-far}
+use Rattle.payoff_tables.specs.Table.{offset, offsetFrom}
+use Rattle.payoff_tables.specs.Meaning.{Shape}
+use Rattle.payoff_tables.proofs.Offsets.{offset-more, offset-so-far}
 use Rattle.best_response.specs.Answers.{against}
 use Rattle.best_response.proofs.Opponents.{Fit, against-length, against-own, against-before, against-after}
 

@@ -12,8 +12,8 @@ use Rattle.refusal.specs.Refusal.{Refusal, when, _then_, each}
 use Rattle.refusal.specs.Told.{Told, unless}
 use Rattle.refusal.specs.declared.NormalFormError.the-variants.{OpponentProfileCount, InvalidOpponentStrategy}
 use Rattle.written_lists.specs.Outputs.{roomRefusal, written}
-use Rattle.table.specs.Table.{payoffAt, tableGame}
-use Rattle.table.specs.Checks.{tableRefusal, playerRefusal}
+use Rattle.payoff_tables.specs.Table.{payoffAt, tableGame}
+use Rattle.payoff_tables.specs.Checks.{tableRefusal, playerRefusal}
 
 -- the profile in which player p chooses s and the others, in player order with p's own place skipped, as given
 abbrev pub against : ℕ → List ℕ → ℕ → List ℕ

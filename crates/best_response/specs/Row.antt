@@ -6,8 +6,8 @@ use lib.ListN.{length, getD, take, replicate}
 use lib.Ieee.{Float, nan}
 use Rattle.refusal.specs.Told.{Told, unless}
 use Rattle.written_lists.specs.Outputs.{roomRefusal, written}
-use Rattle.table.specs.Limits.{maxStrategies, maxMarks}
-use Rattle.table.specs.Table.{stride}
+use Rattle.payoff_tables.specs.Limits.{maxStrategies, maxMarks}
+use Rattle.payoff_tables.specs.Table.{stride}
 use Rattle.strategy_row.specs.Row.{rowBests}
 
 -- The row of player p in a table, from the offset of the profile in which p chooses 0, with every strategy marked.

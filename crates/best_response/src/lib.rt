@@ -9,8 +9,8 @@ ghost use Prim.Native.Nat.{ℕ, _+_, _*_, _<_};
 ghost use lib.ListN.{length, getD};
 ghost use Rattle.refusal.specs.Told.{toldUsize, unless};
 ghost use Rattle.written_lists.specs.Outputs.{over};
-ghost use Rattle.table.specs.Table.{offset, stride};
-ghost use Rattle.table.specs.Meaning.{Shape, Table};
+ghost use Rattle.payoff_tables.specs.Table.{offset, stride};
+ghost use Rattle.payoff_tables.specs.Meaning.{Shape, Table};
 ghost use Rattle.best_response.specs.Row.{rowAnswer, rowWritten, rowUtilities};
 ghost use Rattle.best_response.specs.Answers.{against, opponentsRefusal, responseUtilities, responsesAnswer, responsesWritten};
 

@@ -15,11 +15,12 @@ use lib.ListN.{length, getD, set, take, drop, length-map, length-set}
 use lib.Seq.{ext-getD, getD-set-same, getD-set-other}
 use lib.Ieee.{Float}
 use mir.Val.{boolByte}
-use Rattle.table.specs.Table.{profilePart}
-use Rattle.table.specs.Checks.{tableRefusal, profileRefusal}
-use Rattle.table.specs.Answers.{spaceOf, spaceUnless, profilePayoffs, partFirst}
+use Rattle.payoff_tables.specs.Table.{profilePart}
+use Rattle.payoff_tables.specs.Checks.{tableRefusal, profileRefusal}
+use Rattle.payoff_tables.specs.Answers.{profilePayoffs, partFirst}
+use Rattle.table.specs.Space.{spaceOf, spaceUnless}
 use Rattle.table.specs.declared.SpaceResult.{SpaceResult}
-use Rattle.table.proofs.Offsets.{getD-map}
+use Rattle.payoff_tables.proofs.Offsets.{getD-map}
 use Rattle.survivors.specs.declared.Survivors.{Survivors}
 use Rattle.c_outputs.specs.Status.{output, beside, someByte, orZero, partStart, partLength, survivorsOf, byteOf, markBytes}
 

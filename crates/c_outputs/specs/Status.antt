@@ -9,8 +9,8 @@ use lib.ListN.{length}
 use lib.Ieee.{Float}
 use Rattle.refusal.specs.Refusal.{_then_}
 use Rattle.refusal.specs.Told.{Told, values, refused, unless}
-use Rattle.table.specs.Table.{offset}
-use Rattle.table.specs.Checks.{tableRefusal, profileRefusal}
+use Rattle.payoff_tables.specs.Table.{offset}
+use Rattle.payoff_tables.specs.Checks.{tableRefusal, profileRefusal}
 use Rattle.survivors.specs.declared.Survivors.{Survivors}
 
 -- what an output is left with: the value told, or what it held before

@@ -10,8 +10,8 @@ use lib.Dec.{T, eqb}
 use lib.ListN.{length}
 use lib.Ieee.{Float}
 use Rattle.game.proofs.Finite.{and-T, eqb-T}
-use Rattle.table.specs.Table.{offset, payoffAt, cellRank, tableGame}
-use Rattle.table.specs.Meaning.{Finites, Table}
+use Rattle.payoff_tables.specs.Table.{offset, payoffAt, cellRank, tableGame}
+use Rattle.payoff_tables.specs.Meaning.{Finites, Table}
 use Rattle.bimatrix.specs.declared.Bimatrix.{Bimatrix}
 use Rattle.bimatrix.specs.Matrices.{bimatrixOf, bimatrix}
 use Rattle.bimatrix.specs.Keys.{ranked, ranks, strictlyRanked, leastKey}

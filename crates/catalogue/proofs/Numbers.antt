@@ -25,9 +25,9 @@ use Rattle.refusal.proofs.Told.{apart}
 use Rattle.utility.specs.Order.{key as orderKey, rank}
 use Rattle.utility.proofs.Laws.{zero-key}
 use Rattle.utility.proofs.Rank.{rank-lt, rank-eq}
-use Rattle.table.specs.Table.{cell, payoffAt, tableGame}
-use Rattle.table.specs.Checks.{tableRefusal}
-use Rattle.table.specs.Meaning.{Doubles}
+use Rattle.payoff_tables.specs.Table.{cell, payoffAt, tableGame}
+use Rattle.payoff_tables.specs.Checks.{tableRefusal}
+use Rattle.payoff_tables.specs.Meaning.{Doubles}
 use Rattle.bimatrix.specs.declared.Bimatrix.{Bimatrix}
 use Rattle.bimatrix.specs.Matrices.{matrixOf, inOrder, bimatrixOf, bimatrix}
 use Rattle.bimatrix.specs.Keys.{rankAmong, ranked, ranks, different, strictlyRanked, leastKey}

@@ -9,8 +9,8 @@ use lib.Ieee.{Float}
 use Rattle.game.specs.Game.{Game}
 use Rattle.refusal.specs.Refusal.{numberOf}
 use Rattle.refusal.specs.Told.{Told, values, refused, unless, optionUsize}
-use Rattle.table.specs.Table.{cellRank, tableGame}
-use Rattle.table.specs.Checks.{tableRefusal}
+use Rattle.payoff_tables.specs.Table.{cellRank, tableGame}
+use Rattle.payoff_tables.specs.Checks.{tableRefusal}
 use Rattle.bimatrix.specs.declared.Matrix.{Matrix}
 use Rattle.catalogue.specs.declared.NumberResult.{NumberResult}
 use Rattle.catalogue.specs.declared.NumberResult.the-variants.{Ok, Err}

@@ -12,8 +12,8 @@ use lib.Ieee.{Float}
 use Rattle.game.specs.Finite.{filter}
 use Rattle.game.specs.Game.{Game, Profile, profiles}
 use Rattle.utility.specs.Order.{key as orderKey}
-use Rattle.table.specs.Table.{payoffAt}
-use Rattle.table.specs.Checks.{tableRefusal}
+use Rattle.payoff_tables.specs.Table.{payoffAt}
+use Rattle.payoff_tables.specs.Checks.{tableRefusal}
 use Rattle.bimatrix.specs.declared.Bimatrix.{Bimatrix}
 use Rattle.bimatrix.specs.Matrices.{bimatrix}
 use Rattle.bimatrix.specs.Keys.{ranks, strictlyRanked, leastKey}

@@ -19,11 +19,11 @@ use Rattle.refusal.proofs.Refusal.{when-none, then-none, then-last, each-none, 
 use Rattle.refusal.proofs.Told.{told-values}
 use Rattle.written_lists.specs.Outputs.{shortRefusal}
 use Rattle.utility.specs.Order.{finite}
-use Rattle.table.specs.Limits.{maxPlayers, maxCells}
-use Rattle.table.specs.Table.{cells}
-use Rattle.table.specs.Meaning.{Doubles, Table}
-use Rattle.table.specs.Checks.{countRefusal, countsRefusal}
-use Rattle.table.proofs.Checks.{count-fits, counts-law}
+use Rattle.payoff_tables.specs.Limits.{maxPlayers, maxCells}
+use Rattle.payoff_tables.specs.Table.{cells}
+use Rattle.payoff_tables.specs.Meaning.{Doubles, Table}
+use Rattle.payoff_tables.specs.Checks.{countRefusal, countsRefusal}
+use Rattle.payoff_tables.proofs.Checks.{count-fits, counts-law}
 use Rattle.words.specs.Words.{word, payloadAt, wordsOf, bytesOf, closed, Bytes}
 use Rattle.words.specs.Faults.{lengthFault, dueFault, closingFault}
 use Rattle.words.proofs.Words.{payload-lt, words-back, bytes-back}

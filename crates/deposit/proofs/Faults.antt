@@ -15,8 +15,8 @@ use Rattle.refusal.specs.declared.NormalFormError.{NormalFormError}
 use Rattle.refusal.specs.declared.NormalFormError.the-variants.{NoPlayers, TooManyPlayers, NonFiniteUtility, WrongPayload}
 use Rattle.refusal.proofs.Refusal.{when-none, then-none}
 use Rattle.utility.specs.Order.{finite}
-use Rattle.table.specs.Limits.{maxPlayers}
-use Rattle.table.specs.Checks.{countRefusal}
+use Rattle.payoff_tables.specs.Limits.{maxPlayers}
+use Rattle.payoff_tables.specs.Checks.{countRefusal}
 use Rattle.words.specs.Words.{payloadAt}
 use Rattle.words.specs.Faults.{dueFault}
 use Rattle.deposit.specs.Deposit.{playersIn, payoffIn, openingFault, countFault, cellFault}

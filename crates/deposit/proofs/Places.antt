@@ -8,7 +8,7 @@ use lib.ListN.{length, getD, length-map, List·getD-append}
 use lib.Seq.{ext-getD, getD-append-add}
 use lib.Ieee.{Float, nan}
 use Rattle.game.proofs.Finite.{le-or-lt}
-use Rattle.table.proofs.Offsets.{getD-map, getD-flatMap}
+use Rattle.payoff_tables.proofs.Offsets.{getD-map, getD-flatMap}
 use Rattle.words.specs.Words.{word, closed}
 use Rattle.words.proofs.Words.{closed-length, closed-before, closed-last}
 use Rattle.deposit.specs.Deposit.{payoffWords}

@@ -17,8 +17,8 @@ use Rattle.refusal.proofs.Refusal.{when-none, then-none, then-assoc}
 use Rattle.refusal.proofs.Told.{told-of-refused}
 use Rattle.written_lists.specs.Outputs.{writtenOf, over}
 use Rattle.written_lists.proofs.Outputs.{refused-kept}
-use Rattle.table.specs.Limits.{maxCells}
-use Rattle.table.specs.Table.{cells}
+use Rattle.payoff_tables.specs.Limits.{maxCells}
+use Rattle.payoff_tables.specs.Table.{cells}
 use Rattle.words.specs.Words.{wordsOf}
 use Rattle.words.specs.Faults.{lengthFault, closingFault}
 use Rattle.deposit.specs.Deposit.{playersIn, countsIn, payoffsIn, openingFault, countFault, cellFault, headFault, restFault, wordsFault, readRefusal, tableOf}

@@ -14,10 +14,10 @@ use Rattle.game.proofs.Finite.{length-below}
 use Rattle.refusal.specs.Refusal.{when}
 use Rattle.refusal.specs.declared.NormalFormError.the-variants.{TooManyCells}
 use Rattle.refusal.proofs.Refusal.{each-none}
-use Rattle.table.specs.Limits.{maxPlayers, maxCells}
-use Rattle.table.specs.Table.{cells}
-use Rattle.table.specs.Checks.{countRefusal, countsRefusal}
-use Rattle.table.proofs.Offsets.{getD-map, getD-below}
+use Rattle.payoff_tables.specs.Limits.{maxPlayers, maxCells}
+use Rattle.payoff_tables.specs.Table.{cells}
+use Rattle.payoff_tables.specs.Checks.{countRefusal, countsRefusal}
+use Rattle.payoff_tables.proofs.Offsets.{getD-map, getD-below}
 use Rattle.table.proofs.Space.{Filled}
 use Rattle.words.specs.Words.{payloadAt}
 use Rattle.deposit.specs.Deposit.{playersIn, countsIn, cellPlace, payoffIn, payoffsIn}

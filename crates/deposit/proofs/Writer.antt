@@ -14,7 +14,7 @@ use Rattle.refusal.specs.declared.NormalFormError.{NormalFormError}
 use Rattle.refusal.proofs.Told.{told-of-refused}
 use Rattle.written_lists.specs.Outputs.{writtenOf, over}
 use Rattle.written_lists.proofs.Outputs.{refused-kept}
-use Rattle.table.specs.Checks.{tableRefusal}
+use Rattle.payoff_tables.specs.Checks.{tableRefusal}
 use Rattle.words.specs.Words.{word, closed}
 use Rattle.words.proofs.Words.{bytes-length, closed-length}
 use Rattle.deposit.specs.Deposit.{payoffWords, deposit, fileOf}

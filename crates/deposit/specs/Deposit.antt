@@ -12,9 +12,9 @@ use Rattle.refusal.specs.Told.{Told, unless}
 use Rattle.refusal.specs.declared.NormalFormError.the-variants.{NoPlayers, TooManyPlayers, TooManyCells, NonFiniteUtility, WrongPayload}
 use Rattle.written_lists.specs.Outputs.{shortRefusal}
 use Rattle.utility.specs.Order.{finite}
-use Rattle.table.specs.Limits.{maxPlayers, maxCells}
-use Rattle.table.specs.Table.{cells}
-use Rattle.table.specs.Checks.{countRefusal, tableRefusal}
+use Rattle.payoff_tables.specs.Limits.{maxPlayers, maxCells}
+use Rattle.payoff_tables.specs.Table.{cells}
+use Rattle.payoff_tables.specs.Checks.{countRefusal, tableRefusal}
 use Rattle.words.specs.Words.{payloads, word, payloadAt, bytesOf, closed, wordsOf}
 use Rattle.words.specs.Faults.{lengthFault, dueFault, closingFault}
 

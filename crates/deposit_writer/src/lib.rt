@@ -17,7 +17,7 @@ ghost use lib.ListN.{length};
 ghost use lib.Ieee.{binary64, toBits};
 ghost use Rattle.refusal.specs.Told.{toldUsize};
 ghost use Rattle.utility.specs.Order.{finite};
-ghost use Rattle.table.specs.Meaning.{Shape, Finites};
+ghost use Rattle.payoff_tables.specs.Meaning.{Shape, Finites};
 ghost use Rattle.words.specs.Words.{payloads, word};
 ghost use Rattle.deposit.specs.Deposit.{countKind, cellKind, payoffWords};
 ghost use Rattle.deposit.specs.Answers.{writeAnswer, writeBytes};

@@ -17,11 +17,11 @@ use Rattle.game.specs.Game.{choice, Profile, profiles}
 use Rattle.game.proofs.Finite.{either, and-T, eqb-T}
 use Rattle.game.proofs.Game.{set-profile}
 use Rattle.game.proofs.Solution.{bestResponse-law}
-use Rattle.table.specs.Limits.{maxPlayers, maxStrategies, maxCells}
-use Rattle.table.specs.Table.{offset, stride, cell, payoffAt, cellRank, tableGame}
-use Rattle.table.specs.Meaning.{Shape, Table}
-use Rattle.table.proofs.Offsets.{stride-positive, drop-at-most, cell-below, nth-profile, nth-offset, offset-nth, nth-choice, walk-at-most}
-use Rattle.table.proofs.Walk.{shape-some, row-cell, row-pay, row-start}
+use Rattle.payoff_tables.specs.Limits.{maxPlayers, maxStrategies, maxCells}
+use Rattle.payoff_tables.specs.Table.{offset, stride, cell, payoffAt, cellRank, tableGame}
+use Rattle.payoff_tables.specs.Meaning.{Shape, Table}
+use Rattle.payoff_tables.proofs.Offsets.{stride-positive, drop-at-most, cell-below, nth-profile, nth-offset, offset-nth, nth-choice, walk-at-most}
+use Rattle.payoff_tables.proofs.Walk.{shape-some, row-cell, row-pay, row-start}
 use Rattle.marks.specs.Marks.{marked}
 use Rattle.marks.proofs.Marks.{mark-at}
 use Rattle.strategy_row.specs.Row.{rowUnexceeded, rowBest}

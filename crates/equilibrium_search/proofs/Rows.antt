@@ -16,11 +16,11 @@ use Rattle.game.specs.Finite.{all, below, product}
 use Rattle.game.specs.Game.{choice, profiles}
 use Rattle.game.proofs.Finite.{all-T, below-mem, test-false, same-test}
 use Rattle.game.proofs.Solution.{equilibrium-each}
-use Rattle.table.specs.Limits.{maxPlayers, maxStrategies, maxCells}
-use Rattle.table.specs.Table.{stride, cellRank, tableGame}
-use Rattle.table.specs.Meaning.{Table}
-use Rattle.table.proofs.Offsets.{product-split, product-drop, stride-last, nth-profile, nth-choice}
-use Rattle.table.proofs.Walk.{row-start}
+use Rattle.payoff_tables.specs.Limits.{maxPlayers, maxStrategies, maxCells}
+use Rattle.payoff_tables.specs.Table.{stride, cellRank, tableGame}
+use Rattle.payoff_tables.specs.Meaning.{Table}
+use Rattle.payoff_tables.proofs.Offsets.{product-split, product-drop, stride-last, nth-profile, nth-choice}
+use Rattle.payoff_tables.proofs.Walk.{row-start}
 use Rattle.strategy_row.specs.Row.{rowBest, rowLowest}
 use Rattle.strategy_row.proofs.Row.{rowBest-T, row-top, row-best}
 use Rattle.equilibrium_search.specs.Found.{settled, settledAt, equilibriumAt, Found}

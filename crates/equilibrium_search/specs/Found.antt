@@ -11,7 +11,7 @@ use lib.Ieee.{Float}
 use Rattle.game.specs.Finite.{product}
 use Rattle.game.specs.Game.{Game, Marks, choice, profiles}
 use Rattle.game.specs.Solution.{bestResponse, equilibrium}
-use Rattle.table.specs.Table.{cellRank, tableGame}
+use Rattle.payoff_tables.specs.Table.{cellRank, tableGame}
 use Rattle.marks.specs.Marks.{marked}
 
 -- player p's choice in x is a best response to the others'

@@ -5,8 +5,8 @@ ghost use mathlib.Core.Path.{_≡_};
 ghost use Prim.Native.Nat.{ℕ, _+_, _*_, _-_, _<_, _≤_};
 ghost use lib.ListN.{length, getD, drop};
 ghost use Rattle.game.specs.Finite.{all, below, product};
-ghost use Rattle.table.specs.Limits.{maxMarks};
-ghost use Rattle.table.specs.Meaning.{Finites, Table};
+ghost use Rattle.payoff_tables.specs.Limits.{maxMarks};
+ghost use Rattle.payoff_tables.specs.Meaning.{Finites, Table};
 ghost use Rattle.equilibrium_search.specs.Found.{settledAt, Known, Noted, Found};
 
 // ---- the test of a profile

@@ -13,10 +13,10 @@ use Rattle.game.specs.Strikes.{answer}
 use Rattle.refusal.specs.Told.{values, refused}
 use Rattle.written_lists.specs.Outputs.{roomRefusal}
 use Rattle.utility.specs.Order.{finite, key as orderKey, rank}
-use Rattle.table.specs.Table.{offset, cell, payoffAt, profilePart, tableGame}
-use Rattle.table.specs.Checks.{countRefusal, countsRefusal, payoffsRefusal, tableRefusal, playerRefusal, profileRefusal}
-use Rattle.table.specs.Answers.{offsetAnswer, payoffAnswer}
-use Rattle.table.proofs.Examples.{minus-zero, zero, five, zeros, ties, pair, dilemma, pennies, twice, after}
+use Rattle.payoff_tables.specs.Table.{offset, cell, payoffAt, profilePart, tableGame}
+use Rattle.payoff_tables.specs.Checks.{countRefusal, countsRefusal, payoffsRefusal, tableRefusal, playerRefusal, profileRefusal}
+use Rattle.payoff_tables.specs.Answers.{offsetAnswer, payoffAnswer}
+use Rattle.payoff_tables.proofs.Examples.{minus-zero, zero, five, zeros, ties, pair, dilemma, pennies, twice, after}
 use Rattle.marks.specs.Marks.{marked}
 use Rattle.best_response.specs.Answers.{opponentsRefusal, responses, responseUtilities, responsesAnswer, responsesWritten}
 use Rattle.pure_nash.specs.Answers.{listingAnswer, listedChoices, equilibriaAnswer, equilibriaChoices}

@@ -7,9 +7,9 @@ use Rattle.game.specs.Game.{strategies, profiles, whole, inside, others}
 use Rattle.game.specs.Solution.{dominates, dominators, dominator, gains, deviations, equilibrium, equilibria}
 use Rattle.game.specs.Strikes.{answer}
 use Rattle.utility.specs.Order.{finite, key as orderKey, rank}
-use Rattle.table.specs.Table.{offset, payoffAt, profilePart, tableGame}
-use Rattle.table.specs.Checks.{countRefusal, countsRefusal, payoffsRefusal, tableRefusal}
-use Rattle.table.proofs.Examples.{pair, dilemma}
+use Rattle.payoff_tables.specs.Table.{offset, payoffAt, profilePart, tableGame}
+use Rattle.payoff_tables.specs.Checks.{countRefusal, countsRefusal, payoffsRefusal, tableRefusal}
+use Rattle.payoff_tables.proofs.Examples.{pair, dilemma}
 use Rattle.marks.specs.Marks.{marked}
 use Rattle.survivors.specs.Survivors.{withoutMark, allMarks, freshOf, markedFrom, foreign}
 use Rattle.survivor_calls.specs.Answers.{strikeAnswer, strikeLeaves}

@@ -12,10 +12,10 @@ use Rattle.game.specs.Strikes.{answer}
 use Rattle.refusal.specs.Told.{Told, values, refused}
 use Rattle.written_lists.specs.Outputs.{roomRefusal}
 use Rattle.utility.specs.Order.{finite, key, rank}
-use Rattle.table.specs.Limits.{maxPlayers, maxMarks}
-use Rattle.table.specs.Table.{offset, payoffAt, profilePart, tableGame}
-use Rattle.table.specs.Checks.{countRefusal, countsRefusal, payoffsRefusal, tableRefusal}
-use Rattle.table.proofs.Examples.{ties, pair, dilemma, after}
+use Rattle.payoff_tables.specs.Limits.{maxPlayers, maxMarks}
+use Rattle.payoff_tables.specs.Table.{offset, payoffAt, profilePart, tableGame}
+use Rattle.payoff_tables.specs.Checks.{countRefusal, countsRefusal, payoffsRefusal, tableRefusal}
+use Rattle.payoff_tables.proofs.Examples.{ties, pair, dilemma, after}
 use Rattle.marks.specs.Marks.{marked}
 use Rattle.pure_nash.specs.Answers.{listingAnswer, listedChoices}
 use Rattle.survivors.specs.declared.Survivors.{Survivors}

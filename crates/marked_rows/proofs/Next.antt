@@ -14,9 +14,9 @@ use Rattle.game.specs.Finite.{product}
 use Rattle.game.specs.Game.{choice, profiles, Marks}
 use Rattle.game.proofs.Finite.{le-or-lt}
 use Rattle.game.proofs.Game.{earlier-asym, set-profile}
-use Rattle.table.specs.Limits.{maxPlayers, maxStrategies}
-use Rattle.table.specs.Table.{offset, stride}
-use Rattle.table.proofs.Offsets.{earlier-offset, nth-earlier, nth-profile, offset-nth, nth-offset, nth-zero, nth-choice, walk-at-most, walk-base, walk-below}
+use Rattle.payoff_tables.specs.Limits.{maxPlayers, maxStrategies}
+use Rattle.payoff_tables.specs.Table.{offset, stride}
+use Rattle.payoff_tables.proofs.Offsets.{earlier-offset, nth-earlier, nth-profile, offset-nth, nth-offset, nth-zero, nth-choice, walk-at-most, walk-base, walk-below}
 use Rattle.marks.specs.Marks.{marked}
 use Rattle.marks.proofs.Marks.{mark-at}
 use Rattle.marked_rows.specs.Rows.{NextMark, Kept, MarkedRow, NextRow}

@@ -9,7 +9,7 @@ use lib.Dec.{T}
 use lib.ListN.{length, getD}
 use Rattle.game.specs.Finite.{product}
 use Rattle.game.specs.Game.{choice, profiles, Marks}
-use Rattle.table.specs.Limits.{maxPlayers}
+use Rattle.payoff_tables.specs.Limits.{maxPlayers}
 
 -- r is the first of the strategies a to n - 1 that has a mark among those that start at a place, or n where there is none
 pub record NextMark (marks : List Bool) (place a n r : ℕ) : Type 0 where

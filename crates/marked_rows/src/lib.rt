@@ -6,8 +6,8 @@ ghost use mathlib.Core.Path.{_≡_};
 ghost use Prim.Native.Nat.{_+_, _≤_, _<_};
 ghost use lib.ListN.{length};
 ghost use Rattle.game.specs.Finite.{product};
-ghost use Rattle.table.specs.Limits.{maxPlayers, maxMarks};
-ghost use Rattle.table.specs.Meaning.{Shape};
+ghost use Rattle.payoff_tables.specs.Limits.{maxPlayers, maxMarks};
+ghost use Rattle.payoff_tables.specs.Meaning.{Shape};
 ghost use Rattle.marks.specs.Marks.{marked};
 ghost use Rattle.marked_rows.specs.Rows.{NextMark, Kept, MarkedRow, NextRow};
 

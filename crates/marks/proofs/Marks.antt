@@ -13,9 +13,9 @@ use Rattle.game.specs.Game.{whole}
 use Rattle.game.specs.Ordinal.{SameMarks}
 use Rattle.game.proofs.Finite.{test-true}
 use Rattle.game.proofs.Game.{whole-law}
-use Rattle.table.specs.Limits.{maxPlayers, maxStrategies, maxMarks}
-use Rattle.table.specs.Table.{tableGame}
-use Rattle.table.specs.Meaning.{Shape}
+use Rattle.payoff_tables.specs.Limits.{maxPlayers, maxStrategies, maxMarks}
+use Rattle.payoff_tables.specs.Table.{tableGame}
+use Rattle.payoff_tables.specs.Meaning.{Shape}
 use Rattle.marks.specs.Marks.{marked}
 
 -- A strategy below the limit has its mark at its place.

@@ -5,7 +5,7 @@ use Prim.Native.Nat.{ℕ, _+_, _*_}
 use lib.Dec.{ltb}
 use lib.ListN.{getD}
 use Rattle.game.specs.Game.{Marks}
-use Rattle.table.specs.Limits.{maxStrategies}
+use Rattle.payoff_tables.specs.Limits.{maxStrategies}
 
 -- where the mark of player p's strategy s stands
 abbrev pub markPlace : ℕ → ℕ → ℕ

@@ -27,7 +27,7 @@ use denote.Slice.{ShrSlice}
 use denote.Steps.{nothing, owned}
 use denote.Struct.Laws as LL
 use denote.Struct.Rest.{own-shut}
-use Rattle.table.specs.Limits.{maxPlayers}
+use Rattle.payoff_tables.specs.Limits.{maxPlayers}
 use Rattle.view.specs.declared.PayoffMatrix.{PayoffMatrix}
 use Rattle.view.proofs.Counts.{field-list, counts-vals, counts-makes}
 use Rattle.response_list.proofs.Steps.{slice-val}

@@ -16,7 +16,7 @@ use Rattle.refusal.specs.Refusal.{numberOf}
 use Rattle.refusal.specs.Told.{values, refused}
 use Rattle.refusal.specs.declared.NormalFormError.{NormalFormError}
 use Rattle.written_lists.specs.Outputs.{roomRefusal}
-use Rattle.table.specs.Table.{profilePart}
+use Rattle.payoff_tables.specs.Table.{profilePart}
 use Rattle.profile_listing.specs.Chosen.{chosen, foundAnswer, foundChoices, foundUtilities}
 use Rattle.profile_listing.proofs.Write.{chosen-many}
 

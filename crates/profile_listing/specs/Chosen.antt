@@ -7,7 +7,7 @@ use lib.Ieee.{Float}
 use Rattle.game.specs.Game.{profiles}
 use Rattle.refusal.specs.Told.{Told, unless}
 use Rattle.written_lists.specs.Outputs.{roomRefusal, written, joined}
-use Rattle.table.specs.Table.{profilePart}
+use Rattle.payoff_tables.specs.Table.{profilePart}
 
 -- the elements of a list that have a true
 abbrev pub chosen : {A : Type 0} → List Bool → List A → List A

@@ -9,8 +9,8 @@ ghost use Rattle.game.specs.Finite.{below, product};
 ghost use Rattle.game.specs.Game.{profiles};
 ghost use Rattle.refusal.specs.Told.{toldUsize};
 ghost use Rattle.written_lists.specs.Outputs.{over};
-ghost use Rattle.table.specs.Table.{profilePart};
-ghost use Rattle.table.specs.Meaning.{Table};
+ghost use Rattle.payoff_tables.specs.Table.{profilePart};
+ghost use Rattle.payoff_tables.specs.Meaning.{Table};
 ghost use Rattle.profile_listing.specs.Chosen.{chosen, foundAnswer, foundChoices, foundUtilities};
 
 // How many of the first `total` have a true. The caller proves that there are so many.

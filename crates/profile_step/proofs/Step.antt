@@ -13,7 +13,7 @@ use lib.ListN.{length, getD, set, take}
 use Rattle.game.specs.Finite.{product}
 use Rattle.game.specs.Game.{profiles}
 use Rattle.game.proofs.Finite.{test-true, test-false}
-use Rattle.table.proofs.Offsets.{nth-cons, nth-profile, digits}
+use Rattle.payoff_tables.proofs.Offsets.{nth-cons, nth-profile, digits}
 use Rattle.profile_step.specs.Step.{carried, step}
 use Rattle.profile_step.specs.declared.Advanced.{Advanced}
 

@@ -9,9 +9,9 @@ use Rattle.game.specs.Solution.{gains, deviations, equilibrium, equilibria}
 use Rattle.refusal.specs.Told.{values, refused}
 use Rattle.written_lists.specs.Outputs.{roomRefusal, over}
 use Rattle.utility.specs.Order.{finite, key, rank}
-use Rattle.table.specs.Table.{offset, payoffAt, profilePart, tableGame}
-use Rattle.table.specs.Checks.{countRefusal, countsRefusal, payoffsRefusal, tableRefusal, profileRefusal}
-use Rattle.table.proofs.Examples.{minus-zero, zero, one, two, zeros, pair, dilemma, pennies, twice}
+use Rattle.payoff_tables.specs.Table.{offset, payoffAt, profilePart, tableGame}
+use Rattle.payoff_tables.specs.Checks.{countRefusal, countsRefusal, payoffsRefusal, tableRefusal, profileRefusal}
+use Rattle.payoff_tables.proofs.Examples.{minus-zero, zero, one, two, zeros, pair, dilemma, pennies, twice}
 use Rattle.pure_nash.specs.Answers.{tableEquilibria, isEquilibriumAnswer, countAnswer, listingAnswer, listedChoices, listedUtilities, equilibriaAnswer, equilibriaChoices, equilibriaUtilities}
 
 record Computed : Type 0 where

@@ -20,11 +20,11 @@ use Rattle.refusal.specs.Told.{values}
 use Rattle.refusal.proofs.Told.{told-values}
 use Rattle.refusal.proofs.Refusal.{then-none}
 use Rattle.written_lists.specs.Outputs.{roomRefusal}
-use Rattle.table.specs.Limits.{maxMarks}
-use Rattle.table.specs.Table.{tableGame}
-use Rattle.table.specs.Meaning.{Shape}
-use Rattle.table.specs.Checks.{tableRefusal, profileRefusal}
-use Rattle.table.proofs.Checks.{profile-law}
+use Rattle.payoff_tables.specs.Limits.{maxMarks}
+use Rattle.payoff_tables.specs.Table.{tableGame}
+use Rattle.payoff_tables.specs.Meaning.{Shape}
+use Rattle.payoff_tables.specs.Checks.{tableRefusal, profileRefusal}
+use Rattle.payoff_tables.proofs.Checks.{profile-law}
 use Rattle.marks.specs.Marks.{marked}
 use Rattle.marks.proofs.Marks.{marks-whole}
 use Rattle.pure_nash.specs.Answers.{tableEquilibria, isEquilibriumAnswer, countAnswer, listingAnswer, equilibriaAnswer}

@@ -19,8 +19,8 @@ use Rattle.refusal.specs.declared.NormalFormError.{NormalFormError}
 use Rattle.refusal.proofs.Told.{told-values}
 use Rattle.written_lists.specs.Outputs.{roomRefusal, written, joined, over}
 use Rattle.written_lists.proofs.Outputs.{refused-kept}
-use Rattle.table.specs.Table.{profilePart, tableGame}
-use Rattle.table.specs.Meaning.{Table}
+use Rattle.payoff_tables.specs.Table.{profilePart, tableGame}
+use Rattle.payoff_tables.specs.Meaning.{Table}
 use Rattle.marks.specs.Marks.{marked}
 use Rattle.equilibrium_search.specs.Found.{Found}
 use Rattle.profile_listing.specs.Chosen.{chosen, foundAnswer, foundChoices, foundUtilities}

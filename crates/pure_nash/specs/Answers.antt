@@ -9,8 +9,8 @@ use Rattle.game.specs.Solution.{equilibrium, equilibria}
 use Rattle.refusal.specs.Refusal.{Refusal, _then_}
 use Rattle.refusal.specs.Told.{Told, unless}
 use Rattle.written_lists.specs.Outputs.{roomRefusal, written, joined}
-use Rattle.table.specs.Table.{profilePart, tableGame}
-use Rattle.table.specs.Checks.{tableRefusal, profileRefusal}
+use Rattle.payoff_tables.specs.Table.{profilePart, tableGame}
+use Rattle.payoff_tables.specs.Checks.{tableRefusal, profileRefusal}
 
 module _ (counts : List ℕ) (payoffs : List Float) where
   -- the equilibria of the whole table, in profile order

@@ -12,9 +12,9 @@ ghost use Rattle.game.specs.Finite.{product};
 ghost use Rattle.game.specs.Solution.{equilibria};
 ghost use Rattle.refusal.specs.Told.{toldBool, toldUsize};
 ghost use Rattle.written_lists.specs.Outputs.{over};
-ghost use Rattle.table.specs.Limits.{maxMarks};
-ghost use Rattle.table.specs.Table.{tableGame};
-ghost use Rattle.table.specs.Meaning.{Table};
+ghost use Rattle.payoff_tables.specs.Limits.{maxMarks};
+ghost use Rattle.payoff_tables.specs.Table.{tableGame};
+ghost use Rattle.payoff_tables.specs.Meaning.{Table};
 ghost use Rattle.marks.specs.Marks.{marked};
 ghost use Rattle.pure_nash.specs.Answers.{isEquilibriumAnswer, countAnswer, listingAnswer, listedChoices, listedUtilities, equilibriaAnswer, equilibriaChoices, equilibriaUtilities};
 

@@ -20,10 +20,10 @@ use Rattle.refusal.specs.Told.{Told, values, refused, unless, toldOf}
 use Rattle.refusal.proofs.Refusal.{some-none, then-none, then-assoc}
 use Rattle.refusal.proofs.Told.{told-of, told-values}
 use Rattle.written_lists.specs.Outputs.{writtenOf, over}
-use Rattle.table.specs.Limits.{maxPlayers, maxCells}
-use Rattle.table.specs.Table.{cells}
-use Rattle.table.specs.Checks.{countRefusal}
-use Rattle.table.specs.Meaning.{Table, Doubles}
+use Rattle.payoff_tables.specs.Limits.{maxPlayers, maxCells}
+use Rattle.payoff_tables.specs.Table.{cells}
+use Rattle.payoff_tables.specs.Checks.{countRefusal}
+use Rattle.payoff_tables.specs.Meaning.{Table, Doubles}
 use Rattle.words.specs.Words.{Bytes, wordsOf}
 use Rattle.words.specs.Faults.{lengthFault, dueFault, closingFault}
 use Rattle.deposit.specs.Deposit.{deposit, playersIn, countsIn, payoffsIn, cellPlace, openingFault, countFault, cellFault, headFault, restFault, wordsFault, readRefusal, tableOf}

@@ -7,7 +7,7 @@ ghost use lib.ListN.{length, getD};
 ghost use lib.Seq.{sets};
 ghost use lib.Ieee.{nan};
 ghost use Rattle.utility.specs.Order.{finite};
-ghost use Rattle.table.specs.Meaning.{Finites};
+ghost use Rattle.payoff_tables.specs.Meaning.{Finites};
 ghost use Rattle.outputs.specs.Put.{past};
 ghost use Rattle.text.specs.Text.{spaced};
 ghost use Rattle.report_lines.specs.Lines.{bitsWord, entryLine, numbersLine, entryLines, numbersLines};

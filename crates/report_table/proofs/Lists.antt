@@ -16,10 +16,10 @@ use Rattle.game.proofs.Game.{length-profiles}
 use Rattle.game.proofs.Solution.{equilibria-law}
 use Rattle.written_lists.specs.Outputs.{over}
 use Rattle.utility.specs.Order.{finite}
-use Rattle.table.specs.Limits.{maxStrategies, maxMarks}
-use Rattle.table.specs.Table.{offset, tableGame, profilePart}
-use Rattle.table.specs.Meaning.{Table}
-use Rattle.table.proofs.Table.{part-within, part-length}
+use Rattle.payoff_tables.specs.Limits.{maxStrategies, maxMarks}
+use Rattle.payoff_tables.specs.Table.{offset, tableGame, profilePart}
+use Rattle.payoff_tables.specs.Meaning.{Table}
+use Rattle.payoff_tables.proofs.Table.{part-within, part-length}
 use Rattle.pure_nash.specs.Answers.{tableEquilibria}
 use Rattle.outputs.proofs.Put.{sets-all}
 use Rattle.report_lines.specs.Lines.{entryLine, numbersLine, part, entryLines, numbersLines}

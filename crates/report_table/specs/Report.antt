@@ -6,7 +6,7 @@ use Prim.Native.Nat.{ℕ}
 use Prim.Native.String.{String, [] as no-characters, _∷_ as _and_}
 use lib.ListN.{length}
 use lib.Ieee.{Float}
-use Rattle.table.specs.Table.{profilePart, tableGame}
+use Rattle.payoff_tables.specs.Table.{profilePart, tableGame}
 use Rattle.pure_nash.specs.Answers.{tableEquilibria}
 use Rattle.catalogue.specs.Catalogue.{catalogue}
 use Rattle.catalogue.specs.Answers.{gameNumber}

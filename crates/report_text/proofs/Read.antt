@@ -13,9 +13,9 @@ use Rattle.io.specs.Counts.{Counts}
 use Rattle.refusal.specs.Refusal.{Refusal}
 use Rattle.refusal.specs.Told.{Told, values, refused, toldOf, unless}
 use Rattle.refusal.proofs.Told.{apart, told-of, told-values}
-use Rattle.table.specs.Limits.{maxPlayers}
-use Rattle.table.specs.Table.{cells}
-use Rattle.table.specs.Meaning.{Table}
+use Rattle.payoff_tables.specs.Limits.{maxPlayers}
+use Rattle.payoff_tables.specs.Table.{cells}
+use Rattle.payoff_tables.specs.Meaning.{Table}
 use Rattle.words.specs.Words.{Bytes, wordsOf}
 use Rattle.deposit.specs.Deposit.{countsIn, payoffsIn}
 use Rattle.outputs.proofs.Put.{past-all, sets-all}

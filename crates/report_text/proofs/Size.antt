@@ -14,10 +14,10 @@ use Rattle.game.specs.Game.{Game}
 use Rattle.refusal.specs.Refusal.{Refusal, numberOf}
 use Rattle.refusal.specs.Told.{unless}
 use Rattle.refusal.proofs.Refusal.{number-most}
-use Rattle.table.specs.Limits.{maxStrategies, maxMarks}
-use Rattle.table.specs.Table.{profilePart, tableGame}
-use Rattle.table.specs.Meaning.{Table}
-use Rattle.table.proofs.Table.{part-length}
+use Rattle.payoff_tables.specs.Limits.{maxStrategies, maxMarks}
+use Rattle.payoff_tables.specs.Table.{profilePart, tableGame}
+use Rattle.payoff_tables.specs.Meaning.{Table}
+use Rattle.payoff_tables.proofs.Table.{part-length}
 use Rattle.pure_nash.specs.Answers.{tableEquilibria}
 use Rattle.words.specs.Words.{Bytes, wordsOf}
 use Rattle.deposit.specs.Deposit.{countsIn, payoffsIn}

@@ -3,7 +3,7 @@ use mathlib.Core.List.{List}
 use Prim.Native.Nat.{ℕ, _+_, _*_}
 use lib.Ieee.{Float}
 use Rattle.refusal.specs.Told.{Told, values, refused}
-use Rattle.table.specs.Limits.{maxMarks}
+use Rattle.payoff_tables.specs.Limits.{maxMarks}
 use Rattle.report_input.specs.Input.{maxReportCells, inputTable}
 use Rattle.report_table.specs.Report.{numberLine, tableReport}
 

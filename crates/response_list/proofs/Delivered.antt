@@ -16,8 +16,8 @@ use Rattle.refusal.specs.Refusal.{Refusal, when, _then_}
 use Rattle.refusal.specs.declared.NormalFormError.the-variants.{OutputTooShort}
 use Rattle.refusal.specs.Told.{toldUsize, unless}
 use Rattle.written_lists.specs.Outputs.{roomRefusal, over, written}
-use Rattle.table.specs.Limits.{maxStrategies}
-use Rattle.table.specs.Checks.{tableRefusal, playerRefusal}
+use Rattle.payoff_tables.specs.Limits.{maxStrategies}
+use Rattle.payoff_tables.specs.Checks.{tableRefusal, playerRefusal}
 use Rattle.best_response.specs.Answers.{opponentsRefusal, responses, responsesAnswer}
 use Rattle.response_list.specs.Responses.{noRecords, recordsAnswer, recordsWritten}
 use Rattle.response_list.specs.declared.BestResponse.{BestResponse}

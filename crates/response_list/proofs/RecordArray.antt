@@ -34,7 +34,7 @@ use denote.Index.{row, whole-in, whole-out}
 use denote.Steps.{owned, peeks}
 use denote.Struct.Field.{array-field}
 use denote.Struct.Laws as LL
-use Rattle.table.specs.Limits.{maxStrategies}
+use Rattle.payoff_tables.specs.Limits.{maxStrategies}
 use Rattle.refusal.specs.declared.UsizeResult.{UsizeResult}
 use Rattle.refusal.proofs.UsizeResult as U
 use Rattle.response_list.specs.declared.BestResponse.{BestResponse}

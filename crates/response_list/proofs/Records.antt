@@ -21,10 +21,10 @@ use Rattle.written_lists.proofs.Outputs.{first-short, room-fits, over-next}
 use Rattle.utility.specs.Order.{finite}
 use Rattle.utility.specs.Value.{valueOf}
 use Rattle.utility.specs.declared.Utility.{Utility}
-use Rattle.table.specs.Limits.{maxStrategies}
-use Rattle.table.specs.Table.{payoffAt, tableGame}
-use Rattle.table.specs.Checks.{tableRefusal, playerRefusal}
-use Rattle.table.proofs.Offsets.{cell-below, getD-map, getD-mem}
+use Rattle.payoff_tables.specs.Limits.{maxStrategies}
+use Rattle.payoff_tables.specs.Table.{payoffAt, tableGame}
+use Rattle.payoff_tables.specs.Checks.{tableRefusal, playerRefusal}
+use Rattle.payoff_tables.proofs.Offsets.{cell-below, getD-map, getD-mem}
 use Rattle.best_response.specs.Answers.{against, opponentsRefusal, responses, responseUtilities, responsesAnswer, responsesWritten}
 use Rattle.best_response.proofs.Opponents.{Accepted, accepted-law}
 use Rattle.best_response.proofs.Responses.{accepted-profile, responses-below}

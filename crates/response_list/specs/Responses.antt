@@ -3,8 +3,8 @@ use mathlib.Core.List.{List, map}
 use Prim.Native.Nat.{ℕ}
 use lib.ListN.{replicate}
 use lib.Ieee.{Float, ofBits, binary64}
-use Rattle.table.specs.Limits.{maxStrategies}
-use Rattle.table.specs.Table.{payoffAt}
+use Rattle.payoff_tables.specs.Limits.{maxStrategies}
+use Rattle.payoff_tables.specs.Table.{payoffAt}
 use Rattle.best_response.specs.Answers.{against, responsesAnswer, responsesWritten}
 use Rattle.refusal.specs.Told.{Told}
 use Rattle.response_list.specs.declared.BestResponse.{BestResponse}

@@ -9,7 +9,7 @@ ghost use Prim.Native.Nat.{_≤_};
 ghost use lib.ListN.{length, take};
 ghost use Rattle.refusal.specs.Told.{toldUsize};
 ghost use Rattle.written_lists.specs.Outputs.{over, written};
-ghost use Rattle.table.specs.Limits.{maxStrategies};
+ghost use Rattle.payoff_tables.specs.Limits.{maxStrategies};
 ghost use Rattle.response_list.specs.Responses.{noRecords, recordsAnswer, recordsWritten};
 
 // A best response and its payoff, as in the Rust.

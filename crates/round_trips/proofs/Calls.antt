@@ -16,12 +16,12 @@ use Rattle.refusal.specs.declared.NormalFormError.{NormalFormError}
 use Rattle.refusal.specs.declared.NormalFormError.the-variants.{OutputTooShort}
 use Rattle.refusal.proofs.Refusal.{some-none, when-none, then-none}
 use Rattle.refusal.proofs.Told.{told-values, told-refused, told-of}
-use Rattle.table.specs.Checks.{tableRefusal}
+use Rattle.payoff_tables.specs.Checks.{tableRefusal}
 use Rattle.written_lists.specs.Outputs.{writtenOf, over}
-use Rattle.table.proofs.Checks.{table-law}
+use Rattle.payoff_tables.proofs.Checks.{table-law}
 use Rattle.words.specs.Words.{Bytes, wordsOf}
 use Rattle.deposit.specs.Deposit.{deposit, fileOf, countsIn, payoffsIn, readRefusal, tableOf}
-use Rattle.table.specs.Meaning.{Doubles}
+use Rattle.payoff_tables.specs.Meaning.{Doubles}
 use Rattle.deposit.specs.Answers.{readAnswer, readCounts, readPayoffs, writeAnswer, writeBytes}
 use Rattle.deposit.proofs.Back.{read-back, table-read, write-back}
 use Rattle.round_trips.specs.RoundTrips.{writtenRead, readWritten}

@@ -5,7 +5,7 @@ use lib.ListN.{length}
 use lib.Ieee.{Float}
 use Rattle.refusal.specs.Refusal.{_then_}
 use Rattle.refusal.specs.Told.{Told, unless}
-use Rattle.table.specs.Checks.{tableRefusal}
+use Rattle.payoff_tables.specs.Checks.{tableRefusal}
 use Rattle.written_lists.specs.Outputs.{shortRefusal}
 use Rattle.deposit.specs.Deposit.{deposit, readRefusal}
 

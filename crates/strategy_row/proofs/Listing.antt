@@ -9,7 +9,7 @@ use lib.ListN.{length, getD, set, length-map}
 use lib.Ieee.{Float, nan}
 use Rattle.written_lists.specs.Outputs.{over}
 use Rattle.written_lists.proofs.Outputs.{over-length, over-more}
-use Rattle.table.specs.Table.{cellRank}
+use Rattle.payoff_tables.specs.Table.{cellRank}
 use Rattle.strategy_row.specs.Row.{rowReaching}
 use Rattle.strategy_row.proofs.Row.{On, at, reaching-yes, reaching-one, reaching-not, reaching-grows}
 

@@ -18,10 +18,10 @@ use Rattle.game.specs.Solution.{bestResponse, bestResponses}
 use Rattle.game.proofs.Finite.{and-T, no-T, ltb-T, all-T, below-mem, at-most, same-test, either, test-true, test-false, length-below, filter-mem, filter-cong, filter-at-most, filter-yes, filter-not, filter-grows, greatest}
 use Rattle.game.proofs.Sorted.{lists-iff, lists-filter, first-law, below-law, less-asym, lowest-none, lowest-some}
 use Rattle.game.proofs.Solution.{bestResponse-law}
-use Rattle.table.specs.Limits.{maxStrategies}
-use Rattle.table.specs.Table.{offset, stride, cellRank, tableGame}
-use Rattle.table.specs.Meaning.{Shape}
-use Rattle.table.proofs.Walk.{row-pay}
+use Rattle.payoff_tables.specs.Limits.{maxStrategies}
+use Rattle.payoff_tables.specs.Table.{offset, stride, cellRank, tableGame}
+use Rattle.payoff_tables.specs.Meaning.{Shape}
+use Rattle.payoff_tables.proofs.Walk.{row-pay}
 use Rattle.marks.specs.Marks.{marked}
 use Rattle.marks.proofs.Marks.{mark-at}
 use Rattle.strategy_row.specs.Row.{orZero, rowUnexceeded, rowBest, rowBests, rowReaching, rowLowest}

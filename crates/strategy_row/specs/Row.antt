@@ -9,7 +9,7 @@ use lib.Dec.{ltb}
 use lib.ListN.{getD}
 use lib.Ieee.{Float}
 use Rattle.game.specs.Finite.{all, below, filter, first}
-use Rattle.table.specs.Table.{cellRank}
+use Rattle.payoff_tables.specs.Table.{cellRank}
 
 -- a number, or 0 where there is none
 abbrev pub orZero : Option ℕ → ℕ

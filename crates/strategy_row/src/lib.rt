@@ -7,7 +7,7 @@ ghost use lib.Ieee.{nan};
 ghost use Prim.Native.Nat.{ℕ, _+_, _*_, _<_, _≤_};
 ghost use lib.ListN.{length, getD};
 ghost use Rattle.written_lists.specs.Outputs.{over};
-ghost use Rattle.table.specs.Meaning.{Finites};
+ghost use Rattle.payoff_tables.specs.Meaning.{Finites};
 ghost use Rattle.strategy_row.specs.Row.{rowUnexceeded, rowReaching, rowLowest};
 
 // Whether no marked strategy's payoff exceeds that of the cell `own`. The caller proves that the row lies within the table and the marks,

@@ -9,9 +9,9 @@ use Rattle.game.specs.Solution.{dominates, dominators, dominator}
 use Rattle.refusal.specs.Told.{values, refused}
 use Rattle.written_lists.specs.Outputs.{roomRefusal}
 use Rattle.utility.specs.Order.{finite, key, rank}
-use Rattle.table.specs.Table.{offset, payoffAt, tableGame}
-use Rattle.table.specs.Checks.{countRefusal, countsRefusal, payoffsRefusal, tableRefusal, playerRefusal}
-use Rattle.table.proofs.Examples.{zeros, ties, pair, dilemma}
+use Rattle.payoff_tables.specs.Table.{offset, payoffAt, tableGame}
+use Rattle.payoff_tables.specs.Checks.{countRefusal, countsRefusal, payoffsRefusal, tableRefusal, playerRefusal}
+use Rattle.payoff_tables.proofs.Examples.{zeros, ties, pair, dilemma}
 use Rattle.strict_dominance.specs.Answers.{DominatedStrategy, dominatedOf, dominatedStrategies, dominatedAnswer, dominatedWritten}
 
 -- a strategy and its lowest dominator

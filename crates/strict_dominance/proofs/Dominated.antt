@@ -13,9 +13,9 @@ use Rattle.game.specs.Solution.{dominator}
 use Rattle.game.proofs.Finite.{below-last, flatMap-last}
 use Rattle.written_lists.specs.Outputs.{over}
 use Rattle.written_lists.proofs.Outputs.{over-length, over-more}
-use Rattle.table.specs.Limits.{maxStrategies}
-use Rattle.table.specs.Table.{tableGame}
-use Rattle.table.specs.Meaning.{Shape}
+use Rattle.payoff_tables.specs.Limits.{maxStrategies}
+use Rattle.payoff_tables.specs.Table.{tableGame}
+use Rattle.payoff_tables.specs.Meaning.{Shape}
 use Rattle.strict_dominance.specs.Answers.{DominatedStrategy, beside, dominatedOf, strategiesOf, dominatorsOf, dominatedStrategies}
 
 -- ---- one strategy after the other

@@ -17,11 +17,11 @@ use Rattle.game.specs.Game.{choice, Profile, profiles}
 use Rattle.game.specs.Meaning.{Dominator}
 use Rattle.game.proofs.Finite.{le-or-lt}
 use Rattle.game.proofs.Game.{set-profile}
-use Rattle.table.specs.Limits.{maxPlayers, maxStrategies, maxCells, maxMarks}
-use Rattle.table.specs.Table.{cells, offset, stride, cellRank, tableGame}
-use Rattle.table.specs.Meaning.{Shape, Table}
-use Rattle.table.proofs.Offsets.{product-drop, drop-at-most, stride-positive, offset-below, offset-choice, nth-choice, nth-profile, nth-offset}
-use Rattle.table.proofs.Walk.{shape-some, shape-room, row-inside, row-pay, row-start}
+use Rattle.payoff_tables.specs.Limits.{maxPlayers, maxStrategies, maxCells, maxMarks}
+use Rattle.payoff_tables.specs.Table.{cells, offset, stride, cellRank, tableGame}
+use Rattle.payoff_tables.specs.Meaning.{Shape, Table}
+use Rattle.payoff_tables.proofs.Offsets.{product-drop, drop-at-most, stride-positive, offset-below, offset-choice, nth-choice, nth-profile, nth-offset}
+use Rattle.payoff_tables.proofs.Walk.{shape-some, shape-room, row-inside, row-pay, row-start}
 use Rattle.marks.specs.Marks.{marked}
 use Rattle.marks.proofs.Marks.{mark-at, mark-inside}
 use Rattle.marked_rows.specs.Rows.{Seen, MarkedRow, NextRow}

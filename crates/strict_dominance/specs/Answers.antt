@@ -10,8 +10,8 @@ use Rattle.game.specs.Solution.{dominator}
 use Rattle.refusal.specs.Refusal.{_then_}
 use Rattle.refusal.specs.Told.{Told, unless}
 use Rattle.written_lists.specs.Outputs.{roomRefusal, written}
-use Rattle.table.specs.Table.{tableGame}
-use Rattle.table.specs.Checks.{tableRefusal, playerRefusal}
+use Rattle.payoff_tables.specs.Table.{tableGame}
+use Rattle.payoff_tables.specs.Checks.{tableRefusal, playerRefusal}
 
 -- a dominated strategy and its lowest dominator: the Rust's record of the same name
 pub record DominatedStrategy : Type 0 where

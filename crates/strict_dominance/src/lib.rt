@@ -15,9 +15,9 @@ ghost use Rattle.game.specs.Finite.{product};
 ghost use Rattle.game.specs.Solution.{dominator};
 ghost use Rattle.refusal.specs.Told.{toldUsize, optionUsize};
 ghost use Rattle.written_lists.specs.Outputs.{over};
-ghost use Rattle.table.specs.Limits.{maxStrategies, maxMarks};
-ghost use Rattle.table.specs.Table.{tableGame};
-ghost use Rattle.table.specs.Meaning.{Table};
+ghost use Rattle.payoff_tables.specs.Limits.{maxStrategies, maxMarks};
+ghost use Rattle.payoff_tables.specs.Table.{tableGame};
+ghost use Rattle.payoff_tables.specs.Meaning.{Table};
 ghost use Rattle.marks.specs.Marks.{marked};
 ghost use Rattle.strict_dominance.specs.Answers.{strategiesOf, dominatorsOf, dominatedStrategies, deliveredAnswer, dominatedAnswer, writtenOf, dominatedWritten};
 

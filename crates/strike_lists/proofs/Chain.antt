@@ -17,13 +17,13 @@ use Rattle.game.proofs.Game.{whole-law}
 use Rattle.game.proofs.Strikes.{Answered, answer-law, without-law}
 use Rattle.refusal.specs.Told.{Told, values, refused as toldRefused, tells}
 use Rattle.refusal.proofs.Refusal.{then-none}
-use Rattle.table.specs.Limits.{maxStrategies}
-use Rattle.table.specs.Table.{tableGame}
-use Rattle.table.specs.Checks.{tableRefusal}
-use Rattle.table.specs.Meaning.{Table}
-use Rattle.table.proofs.Checks.{table-law}
+use Rattle.payoff_tables.specs.Limits.{maxStrategies}
+use Rattle.payoff_tables.specs.Table.{tableGame}
+use Rattle.payoff_tables.specs.Checks.{tableRefusal}
+use Rattle.payoff_tables.specs.Meaning.{Table}
+use Rattle.payoff_tables.proofs.Checks.{table-law}
 use Rattle.table.proofs.Space.{space-count}
-use Rattle.table.specs.Answers.{spaceOf}
+use Rattle.table.specs.Space.{spaceOf}
 use Rattle.survivors.specs.declared.Survivors.{Survivors}
 use Rattle.survivors.specs.Survivors.{marksOf, withoutMark, markCount, freshOf, foreignRefusal}
 use Rattle.survivor_calls.specs.Answers.{toldAnswer, handedBack, strikeAnswer, strikeLeaves}

@@ -15,11 +15,11 @@ use Rattle.refusal.specs.Refusal.{Refusal}
 use Rattle.refusal.specs.Told.{Told, values, status}
 use Rattle.written_lists.specs.Outputs.{roomRefusal, joined, over}
 use Rattle.written_lists.proofs.Outputs.{room-fits}
-use Rattle.table.specs.Table.{profilePart, tableGame}
-use Rattle.table.specs.Meaning.{Table}
-use Rattle.table.specs.Checks.{tableRefusal}
-use Rattle.table.proofs.Checks.{table-law}
-use Rattle.table.proofs.Game.{game-playable}
+use Rattle.payoff_tables.specs.Table.{profilePart, tableGame}
+use Rattle.payoff_tables.specs.Meaning.{Table}
+use Rattle.payoff_tables.specs.Checks.{tableRefusal}
+use Rattle.payoff_tables.proofs.Checks.{table-law}
+use Rattle.payoff_tables.proofs.Game.{game-playable}
 use Rattle.pure_nash.specs.Answers.{tableEquilibria, listingAnswer, listedChoices, listedUtilities, equilibriaAnswer, equilibriaChoices, equilibriaUtilities}
 use Rattle.pure_nash.proofs.Listing.{same-answer, same-choices, same-utilities}
 use Rattle.survivors.specs.declared.Survivors.{Survivors}

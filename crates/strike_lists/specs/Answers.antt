@@ -8,7 +8,7 @@ use Rattle.game.specs.Finite.{filter}
 use Rattle.refusal.specs.Refusal.{Refusal, _then_}
 use Rattle.refusal.specs.Told.{Told, values, refused as toldRefused, unless, tells, unlessRefused}
 use Rattle.written_lists.specs.Outputs.{roomRefusal}
-use Rattle.table.specs.Checks.{tableRefusal}
+use Rattle.payoff_tables.specs.Checks.{tableRefusal}
 use Rattle.survivors.specs.declared.Survivors.{Survivors}
 use Rattle.survivors.specs.Survivors.{freshOf, noSurvivors}
 use Rattle.survivor_calls.specs.Answers.{strikeAnswer, strikeLeaves}

@@ -15,7 +15,7 @@ use Rattle.game.specs.Game.{Strategy}
 use Rattle.game.specs.Strikes.{run}
 use Rattle.game.specs.Meaning.{Undominated}
 use Rattle.refusal.specs.Told.{Told}
-use Rattle.table.specs.Table.{tableGame}
+use Rattle.payoff_tables.specs.Table.{tableGame}
 use Rattle.pure_nash.specs.Answers.{tableEquilibria, equilibriaAnswer, equilibriaChoices, equilibriaUtilities}
 use Rattle.survivors.specs.declared.Survivors.{Survivors}
 use Rattle.survivors.specs.Survivors.{marksOf, markCount, freshOf, foreignRefusal}

@@ -7,7 +7,7 @@ use Rattle.game.specs.Game.{Strategy}
 use Rattle.game.specs.Strikes.{without}
 use Rattle.game.specs.Demand3.{Accepted, Refused}
 use Rattle.refusal.specs.Told.{Told, values, refused}
-use Rattle.table.specs.Table.{tableGame}
+use Rattle.payoff_tables.specs.Table.{tableGame}
 use Rattle.survivors.specs.declared.Survivors.{Survivors}
 use Rattle.survivors.specs.Survivors.{marksOf}
 use Rattle.survivor_calls.specs.Answers.{strikeAnswer, strikeLeaves}

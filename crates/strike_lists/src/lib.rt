@@ -14,7 +14,7 @@ ghost use Prim.Native.Nat.{ℕ, min, _<_, _≤_};
 ghost use lib.ListN.{length, set};
 ghost use Rattle.refusal.specs.Told.{values, refused, toldUsize, status, tells};
 ghost use Rattle.written_lists.specs.Outputs.{over};
-ghost use Rattle.table.specs.Meaning.{Table};
+ghost use Rattle.payoff_tables.specs.Meaning.{Table};
 ghost use Rattle.survivors.specs.Survivors.{freshOf, noSurvivors};
 ghost use Rattle.strike_lists.specs.Answers.{callsOf, chain, acceptedOf, dominatorOf, answersSaid, strikesAnswer, strikesLeave, strikesWritten};
 ghost use Rattle.strike_lists.specs.Demand3.{Demand3};

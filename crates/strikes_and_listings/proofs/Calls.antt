@@ -14,10 +14,10 @@ use Rattle.game.specs.Finite.{sum}
 use Rattle.game.specs.Game.{Strategy, whole}
 use Rattle.refusal.specs.Refusal.{Refusal}
 use Rattle.refusal.specs.Told.{Told, values, refused, tells, unlessRefused}
-use Rattle.table.specs.Checks.{tableRefusal}
-use Rattle.table.proofs.Checks.{table-law}
+use Rattle.payoff_tables.specs.Checks.{tableRefusal}
+use Rattle.payoff_tables.proofs.Checks.{table-law}
 use Rattle.pure_nash.proofs.Listing.{listing-refused}
-use Rattle.table.specs.Table.{tableGame}
+use Rattle.payoff_tables.specs.Table.{tableGame}
 use Rattle.survivors.specs.declared.Survivors.{Survivors}
 use Rattle.survivors.specs.Survivors.{freshOf, noSurvivors, markCount, marksOf}
 use Rattle.survivor_calls.specs.Answers.{survivorsRefusal, strikeAnswer, strikeLeaves}

@@ -20,7 +20,7 @@ ghost use lib.ListN.{length};
 ghost use Rattle.game.specs.Finite.{sum};
 ghost use Rattle.game.specs.Game.{strategy as named};
 ghost use Rattle.refusal.specs.Told.{toldUsize, values, refused, tells, unlessRefused};
-ghost use Rattle.table.specs.Checks.{tableRefusal};
+ghost use Rattle.payoff_tables.specs.Checks.{tableRefusal};
 ghost use Rattle.written_lists.specs.Outputs.{over};
 ghost use Rattle.pure_nash.specs.Answers.{equilibriaAnswer, equilibriaChoices, equilibriaUtilities};
 ghost use Rattle.survivors.specs.Survivors.{freshOf, noSurvivors, markCount};

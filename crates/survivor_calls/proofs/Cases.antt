@@ -20,8 +20,8 @@ use Rattle.refusal.specs.Told.{values, refused}
 use Rattle.refusal.proofs.Told.{apart}
 use Rattle.refusal.specs.declared.NormalFormError.{NormalFormError}
 use Rattle.refusal.specs.declared.NormalFormError.the-variants.{ForeignSurvivors}
-use Rattle.table.specs.Table.{tableGame}
-use Rattle.table.specs.Checks.{tableRefusal}
+use Rattle.payoff_tables.specs.Table.{tableGame}
+use Rattle.payoff_tables.specs.Checks.{tableRefusal}
 use Rattle.survivors.specs.declared.Survivors.{Survivors}
 use Rattle.survivors.specs.Survivors.{marksOf, foreign, foreignRefusal}
 use Rattle.survivor_calls.specs.Answers.{toldAnswer, orElse, survivorsRefusal, strikeAnswer, strikeLeaves}

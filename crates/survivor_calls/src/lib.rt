@@ -13,8 +13,8 @@ ghost use Rattle.game.specs.Strikes.{answer};
 ghost use Rattle.refusal.specs.Refusal.{numberOf};
 ghost use Rattle.refusal.specs.Told.{refused, toldUsize};
 ghost use Rattle.written_lists.specs.Outputs.{over};
-ghost use Rattle.table.specs.Table.{tableGame};
-ghost use Rattle.table.specs.Meaning.{Table};
+ghost use Rattle.payoff_tables.specs.Table.{tableGame};
+ghost use Rattle.payoff_tables.specs.Meaning.{Table};
 ghost use Rattle.survivors.specs.Survivors.{marksOf};
 ghost use Rattle.survivor_calls.specs.Answers.{toldAnswer, handedBack, strikeAnswer, strikeLeaves, survivingAnswer, survivingChoices, survivingUtilities};
 

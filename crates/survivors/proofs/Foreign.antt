@@ -16,7 +16,7 @@ use Rattle.game.proofs.Finite.{and-T, no-T, eqb-T, all-T, filter-mem, some-mem,
 use Rattle.refusal.specs.Refusal.{when}
 use Rattle.refusal.specs.declared.NormalFormError.the-variants.{ForeignSurvivors}
 use Rattle.refusal.proofs.Refusal.{when-none}
-use Rattle.table.specs.Limits.{maxPlayers, maxStrategies}
+use Rattle.payoff_tables.specs.Limits.{maxPlayers, maxStrategies}
 use Rattle.marks.specs.Marks.{marked}
 use Rattle.marks.proofs.Marks.{mark-past}
 use Rattle.survivors.specs.declared.Survivors.{Survivors}

@@ -19,11 +19,11 @@ use Rattle.game.specs.Game.{Marks, Strategy, whole}
 use Rattle.game.specs.Strikes.{without}
 use Rattle.game.proofs.Finite.{length-below, length-flatMap, sum-equal, le-or-lt, same-test, test-true, filter-append, map-cong}
 use Rattle.game.proofs.Strikes.{without-law}
-use Rattle.table.specs.Limits.{maxPlayers, maxStrategies, maxMarks}
-use Rattle.table.specs.Table.{tableGame}
-use Rattle.table.specs.Meaning.{Shape}
-use Rattle.table.proofs.Offsets.{getD-map, getD-flatMap, getD-below, digits}
-use Rattle.table.specs.Answers.{places, spaceOf}
+use Rattle.payoff_tables.specs.Limits.{maxPlayers, maxStrategies, maxMarks}
+use Rattle.payoff_tables.specs.Table.{tableGame}
+use Rattle.payoff_tables.specs.Meaning.{Shape}
+use Rattle.payoff_tables.proofs.Offsets.{getD-map, getD-flatMap, getD-below, digits}
+use Rattle.table.specs.Space.{places, spaceOf}
 use Rattle.table.proofs.Space.{past, space-count}
 use Rattle.marks.specs.Marks.{markPlace, marked}
 use Rattle.marks.proofs.Marks.{mark-at, mark-past, mark-inside}

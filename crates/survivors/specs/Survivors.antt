@@ -9,8 +9,8 @@ use Rattle.game.specs.Finite.{all, below, filter, empty}
 use Rattle.game.specs.Game.{Marks, Strategy}
 use Rattle.refusal.specs.Refusal.{Refusal, when}
 use Rattle.refusal.specs.declared.NormalFormError.the-variants.{ForeignSurvivors}
-use Rattle.table.specs.Limits.{maxPlayers, maxStrategies}
-use Rattle.table.specs.Answers.{places}
+use Rattle.payoff_tables.specs.Limits.{maxPlayers, maxStrategies}
+use Rattle.table.specs.Space.{places}
 use Rattle.marks.specs.Marks.{markPlace, marked}
 use Rattle.survivors.specs.declared.Survivors.{Survivors}
 

@@ -10,8 +10,8 @@ ghost use Prim.Native.Nat.{_<_};
 ghost use lib.ListN.{length};
 ghost use Rattle.game.specs.Game.{strategy as named};
 ghost use Rattle.refusal.specs.Told.{toldUnit, unless, unlessRefused};
-ghost use Rattle.table.specs.Limits.{maxPlayers, maxStrategies, maxMarks};
-ghost use Rattle.table.specs.Checks.{tableRefusal};
+ghost use Rattle.payoff_tables.specs.Limits.{maxPlayers, maxStrategies, maxMarks};
+ghost use Rattle.payoff_tables.specs.Checks.{tableRefusal};
 ghost use Rattle.marks.specs.Marks.{marked};
 ghost use Rattle.survivors.specs.Survivors.{withoutMark, allMarks, freshOf, noSurvivors, markedFrom, foreign};
 

@@ -13,8 +13,8 @@ use Rattle.game.specs.Meaning.{Undominated}
 use Rattle.game.proofs.Game.{strategies-law}
 use Rattle.game.proofs.Strikes.{answer-unique}
 use Rattle.game.proofs.Ends.{undominated-law}
-use Rattle.table.specs.Table.{tableGame}
-use Rattle.table.specs.Meaning.{Table}
+use Rattle.payoff_tables.specs.Table.{tableGame}
+use Rattle.payoff_tables.specs.Meaning.{Table}
 use Rattle.survivors.specs.declared.Survivors.{Survivors}
 use Rattle.survivors.specs.Survivors.{marksOf, markCount, freshOf}
 use Rattle.survivor_calls.specs.Answers.{toldAnswer}

@@ -11,7 +11,7 @@ use Rattle.game.specs.Finite.{empty}
 use Rattle.game.specs.Game.{Strategy}
 use Rattle.game.proofs.Finite.{flatMap-append}
 use Rattle.refusal.specs.Told.{Told}
-use Rattle.table.specs.Meaning.{Table}
+use Rattle.payoff_tables.specs.Meaning.{Table}
 use Rattle.survivors.specs.declared.Survivors.{Survivors}
 use Rattle.survivors.specs.Survivors.{markCount, freshOf}
 use Rattle.survivor_calls.specs.Answers.{handedBack, strikeAnswer, strikeLeaves}

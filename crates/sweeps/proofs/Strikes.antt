@@ -11,7 +11,7 @@ use Rattle.game.specs.Finite.{_∈_}
 use Rattle.game.specs.Game.{Strategy}
 use Rattle.refusal.specs.Told.{Told, values, refused}
 use Rattle.refusal.proofs.Told.{apart}
-use Rattle.table.specs.Meaning.{Table}
+use Rattle.payoff_tables.specs.Meaning.{Table}
 use Rattle.survivors.specs.declared.Survivors.{Survivors}
 use Rattle.survivors.specs.Survivors.{markCount}
 use Rattle.survivor_calls.specs.Answers.{handedBack, strikeAnswer, strikeLeaves}

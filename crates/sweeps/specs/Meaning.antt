@@ -9,7 +9,7 @@ use Rattle.game.specs.Finite.{_∈_, sum}
 use Rattle.game.specs.Game.{Strategy, strategy}
 use Rattle.game.specs.Meaning.{Has, Undominated}
 use Rattle.refusal.specs.Told.{Told}
-use Rattle.table.specs.Table.{tableGame}
+use Rattle.payoff_tables.specs.Table.{tableGame}
 use Rattle.survivors.specs.declared.Survivors.{Survivors}
 use Rattle.survivors.specs.Survivors.{marksOf, freshOf}
 use Rattle.strike_lists.specs.Answers.{chain}

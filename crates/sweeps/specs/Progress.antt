@@ -7,7 +7,7 @@ use lib.ListN.{length}
 use lib.Ieee.{Float}
 use Rattle.game.specs.Finite.{product, empty}
 use Rattle.game.specs.Game.{Strategy}
-use Rattle.table.specs.Meaning.{Table}
+use Rattle.payoff_tables.specs.Meaning.{Table}
 use Rattle.survivors.specs.declared.Survivors.{Survivors}
 use Rattle.strike_lists.specs.Answers.{chainFrom, chain}
 use Rattle.outputs.specs.Put.{Puts}

@@ -7,7 +7,7 @@ use lib.Ieee.{Float}
 use Rattle.game.specs.Finite.{sum}
 use Rattle.game.specs.Game.{Strategy, strategies}
 use Rattle.refusal.specs.Told.{Told, values, refused}
-use Rattle.table.specs.Table.{tableGame}
+use Rattle.payoff_tables.specs.Table.{tableGame}
 use Rattle.survivors.specs.declared.Survivors.{Survivors}
 use Rattle.survivors.specs.Survivors.{freshOf}
 use Rattle.strike_lists.specs.Answers.{Chain, chainFrom}

@@ -8,7 +8,7 @@ ghost use lib.ListN.{length, getD};
 ghost use lib.Seq.{sets};
 ghost use Rattle.game.specs.Finite.{below};
 ghost use Rattle.game.specs.Game.{strategy as named};
-ghost use Rattle.table.specs.Meaning.{Table};
+ghost use Rattle.payoff_tables.specs.Meaning.{Table};
 ghost use Rattle.outputs.specs.Put.{past, Puts};
 ghost use Rattle.sweeps.specs.Sweeps.{sweepCalls, sweeps, strikesNumbers};
 ghost use Rattle.sweeps.specs.Meaning.{DoneInto};

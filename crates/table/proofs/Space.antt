@@ -16,8 +16,8 @@ use Rattle.refusal.specs.Told.{toldUnit, toldUsize, unless}
 use Rattle.refusal.specs.declared.UsizeResult.{UsizeResult}
 use Rattle.refusal.specs.declared.UsizeResult.the-variants.{Ok, Err}
 use Rattle.refusal.proofs.Told.{apart}
-use Rattle.table.specs.Limits.{maxPlayers}
-use Rattle.table.specs.Answers.{places, spaceOf, spaceUnless, spaceResult}
+use Rattle.payoff_tables.specs.Limits.{maxPlayers}
+use Rattle.table.specs.Space.{places, spaceOf, spaceUnless, spaceResult}
 
 -- past its end a list of counts has 0
 pub past : (cs : List ℕ) (p : ℕ) → length cs ≤ p → getD cs p 0 ≡ 0
@@ -48,6 +48,11 @@ space-count cs p h =
     (λ l. past (places cs) p (omega (arith, places-length cs)) ∙ sym (past cs p (omega arith)))
     (λ l. getD-take maxPlayers (cs ++ replicate maxPlayers 0) p 0 l ∙ with-zeros cs maxPlayers p)
     (le-or-lt maxPlayers p)
+
+-- two counts in eight places
+space-places : spaceOf (2 ∷ 3 ∷ []) .counts ≡ 2 ∷ 3 ∷ 0 ∷ 0 ∷ 0 ∷ 0 ∷ 0 ∷ 0 ∷ []
+unfolding spaceOf
+space-places = refl
 
 -- ---- the loop
 

@@ -1,6 +1,2 @@
--- The definitions of this crate, to be read in this order.
-pub mod Limits
-pub mod Table
-pub mod Checks
-pub mod Meaning
-pub mod Answers
+-- The definitions of this crate.
+pub mod Space

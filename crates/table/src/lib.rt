@@ -12,10 +12,11 @@ ghost use lib.Dec.{ltb};
 ghost use lib.ListN.{length};
 ghost use Rattle.refusal.specs.Told.{toldUnit, toldUsize, unless};
 ghost use Rattle.utility.specs.Value.{toldUtility};
-ghost use Rattle.table.specs.Table.{offset, stride, cellRank};
-ghost use Rattle.table.specs.Meaning.{Shape, Finites};
-ghost use Rattle.table.specs.Checks.{countsRefusal, tableRefusal, profileRefusal};
-ghost use Rattle.table.specs.Answers.{places, spaceUnless, spaceResult, countsAnswer, tableAnswer, offsetAnswer, payoffAnswer, profilePayoffs, partFirst};
+ghost use Rattle.payoff_tables.specs.Table.{offset, stride, cellRank};
+ghost use Rattle.payoff_tables.specs.Meaning.{Shape, Finites};
+ghost use Rattle.payoff_tables.specs.Checks.{countsRefusal, tableRefusal, profileRefusal};
+ghost use Rattle.payoff_tables.specs.Answers.{countsAnswer, tableAnswer, offsetAnswer, payoffAnswer, profilePayoffs, partFirst};
+ghost use Rattle.table.specs.Space.{places, spaceUnless, spaceResult};
 
 // The limits of document 01, "The table".
 pub const MAX_PLAYERS: usize = 8;

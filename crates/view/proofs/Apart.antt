@@ -27,7 +27,7 @@ use denote.Slice.{ShrSlice}
 use denote.Steps.{owned, nothing}
 use denote.Struct.Laws as LL
 use denote.Struct.Rest.{all-own, own-open}
-use Rattle.table.specs.Limits.{maxPlayers}
+use Rattle.payoff_tables.specs.Limits.{maxPlayers}
 use Rattle.view.specs.declared.PayoffMatrix.{PayoffMatrix}
 use Rattle.response_list.proofs.Steps.{slice-val}
 use Rattle.view.proofs.Counts.{field-list, counts-vals, counts-out, counts-makes}

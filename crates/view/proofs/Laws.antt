@@ -4,8 +4,8 @@ use mathlib.Core.List.{List}
 use mathlib.Core.Option.{none}
 use Prim.Native.Nat.{ℕ}
 use lib.Ieee.{Float}
-use Rattle.table.specs.Checks.{tableRefusal}
-use Rattle.table.specs.Answers.{spaceOf}
+use Rattle.payoff_tables.specs.Checks.{tableRefusal}
+use Rattle.table.specs.Space.{spaceOf}
 use Rattle.view_fields.specs.Counts.{firstCounts}
 use Rattle.view_fields.proofs.Laws.{view-of}
 use Rattle.view.specs.Matrix.{countsOf}

@@ -10,10 +10,10 @@ use Rattle.game.specs.Finite.{below}
 use Rattle.game.proofs.Finite.{below-mem, length-below, map-below, map-cong}
 use Rattle.refusal.specs.Refusal.{Refusal, _then_}
 use Rattle.refusal.specs.declared.NormalFormError.the-variants.{NoPlayers, TooManyPlayers}
-use Rattle.table.specs.Limits.{maxPlayers}
-use Rattle.table.specs.Checks.{payoffsRefusal, tableRefusal}
-use Rattle.table.specs.Answers.{spaceOf}
-use Rattle.table.proofs.Checks.{no-players, many-players, table-law}
+use Rattle.payoff_tables.specs.Limits.{maxPlayers}
+use Rattle.payoff_tables.specs.Checks.{payoffsRefusal, tableRefusal}
+use Rattle.table.specs.Space.{spaceOf}
+use Rattle.payoff_tables.proofs.Checks.{no-players, many-players, table-law}
 use Rattle.table.proofs.Space.{space-count}
 use Rattle.view_fields.specs.Counts.{firstCounts}
 

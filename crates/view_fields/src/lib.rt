@@ -15,7 +15,7 @@ ghost use lib.ListN.{length};
 ghost use Rattle.game.specs.Game.{strategy as named};
 ghost use Rattle.refusal.specs.Told.{toldBool, toldUnit, toldUsize, unless, unlessRefused};
 ghost use Rattle.written_lists.specs.Outputs.{over, written};
-ghost use Rattle.table.specs.Checks.{tableRefusal};
+ghost use Rattle.payoff_tables.specs.Checks.{tableRefusal};
 ghost use Rattle.pure_nash.specs.Answers.{isEquilibriumAnswer, equilibriaAnswer, equilibriaChoices, equilibriaUtilities};
 ghost use Rattle.strict_dominance.specs.Answers.{strategiesOf, dominatorsOf, dominatedAnswer, dominatedWritten};
 ghost use Rattle.survivors.specs.Survivors.{freshOf, noSurvivors};

@@ -9,10 +9,10 @@ use lib.ListN.{length}
 use lib.Ieee.{Float}
 use Rattle.refusal.specs.Told.{toldUsize}
 use Rattle.refusal.proofs.Told.{told-values}
-use Rattle.table.specs.Table.{offset}
-use Rattle.table.specs.Meaning.{Table}
-use Rattle.table.specs.Checks.{tableRefusal}
-use Rattle.table.proofs.Checks.{table-law}
+use Rattle.payoff_tables.specs.Table.{offset}
+use Rattle.payoff_tables.specs.Meaning.{Table}
+use Rattle.payoff_tables.specs.Checks.{tableRefusal}
+use Rattle.payoff_tables.proofs.Checks.{table-law}
 use Rattle.best_response.specs.Answers.{against, opponentsRefusal}
 use Rattle.best_response.proofs.Opponents.{opponents-law, Accepted}
 use Rattle.best_response.proofs.Responses.{against-inside, refused-table, refused-player, refused-opponents, refused-whole, row-whole}

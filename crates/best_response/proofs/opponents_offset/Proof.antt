@@ -4,7 +4,7 @@ use mathlib.Core.Logic.{⊎-elim}
 use Prim.Native.Nat.{_-_, _<_}
 use native.Mathlib.Omega.{arith}
 use lib.ListN.{length}
-use Rattle.table.proofs.Walk.{offset-room}
+use Rattle.payoff_tables.proofs.Walk.{offset-room}
 use Rattle.best_response.proofs.Opponents.{wrong-number, bad-opponent, opponents-law}
 use Rattle.best_response.proofs.Walk.{Walked, walked-none, walked-end, walked-own, walked-inside, walked-read, walked-other}
 use Rattle.best_response.proofs.opponents_offset.Statement.{statement}

@@ -9,9 +9,9 @@ use lib.ListN.{length, getD}
 use lib.Seq.{take-length}
 use Rattle.refusal.specs.Told.{values}
 use Rattle.written_lists.proofs.Outputs.{first-short, second-short, room-fits}
-use Rattle.table.specs.Table.{stride}
-use Rattle.table.specs.Limits.{maxStrategies, maxMarks}
-use Rattle.table.proofs.Walk.{step-room}
+use Rattle.payoff_tables.specs.Table.{stride}
+use Rattle.payoff_tables.specs.Limits.{maxStrategies, maxMarks}
+use Rattle.payoff_tables.proofs.Walk.{step-room}
 use Rattle.strategy_row.proofs.Row.{first-cell, lowest-below}
 use Rattle.best_response.specs.Row.{rowResponses, rowAnswer, rowUtilities}
 use Rattle.best_response.proofs.Responses.{found-responses, found-whole}

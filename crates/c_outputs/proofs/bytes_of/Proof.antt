@@ -5,7 +5,7 @@ use Prim.Native.Nat.{_-_, _≤_}
 use native.Mathlib.Omega.{arith}
 use borrow.Author.Needs.{needs}
 use lib.ListN.{getD}
-use Rattle.table.specs.Limits.{maxMarks}
+use Rattle.payoff_tables.specs.Limits.{maxMarks}
 use Rattle.c_outputs.specs.Status.{byteOf}
 use Rattle.c_outputs.proofs.Outputs.{Made, made-more, made-all, byte-is}
 use Rattle.c_outputs.proofs.bytes_of.Statement.{statement}

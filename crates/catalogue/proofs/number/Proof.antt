@@ -6,9 +6,9 @@ use borrow.Author.Needs.{needs}
 use Rattle.refusal.specs.Refusal.{Refusal}
 use Rattle.refusal.specs.Told.{values, unless, toldUsize}
 use Rattle.refusal.proofs.Told.{refused-again}
-use Rattle.table.specs.Table.{tableGame}
-use Rattle.table.specs.Checks.{tableRefusal}
-use Rattle.table.proofs.Table.{TableTold, table-told}
+use Rattle.payoff_tables.specs.Table.{tableGame}
+use Rattle.payoff_tables.specs.Checks.{tableRefusal}
+use Rattle.payoff_tables.proofs.Table.{TableTold, table-told}
 use Rattle.catalogue.specs.Catalogue.{catalogue}
 use Rattle.catalogue.specs.Answers.{gameNumber, numberAnswer}
 use Rattle.catalogue.proofs.number.Statement.{statement}

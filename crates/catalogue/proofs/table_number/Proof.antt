@@ -9,8 +9,8 @@ use native.Mathlib.Omega.{arith}
 use borrow.Author.Needs.{needs}
 use lib.ListN.{length}
 use lib.Ieee.{Float}
-use Rattle.table.specs.Table.{tableGame}
-use Rattle.table.specs.Meaning.{Finites}
+use Rattle.payoff_tables.specs.Table.{tableGame}
+use Rattle.payoff_tables.specs.Meaning.{Finites}
 use Rattle.bimatrix.specs.declared.Bimatrix.{Bimatrix}
 use Rattle.bimatrix.specs.Matrices.{bimatrixOf}
 use Rattle.bimatrix.specs.Keys.{strictlyRanked, leastKey}

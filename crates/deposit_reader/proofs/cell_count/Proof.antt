@@ -15,11 +15,11 @@ use Rattle.refusal.specs.declared.NormalFormError.the-variants.{TooManyCells}
 use Rattle.refusal.specs.Told.{toldUsize, refused, unless}
 use Rattle.refusal.proofs.Refusal.{each-none, each-some}
 use Rattle.refusal.proofs.Told.{told-values, told-refused, refused-again}
-use Rattle.table.specs.Limits.{maxCells}
-use Rattle.table.specs.Table.{cells}
-use Rattle.table.specs.Checks.{countRefusal, countsRefusal}
-use Rattle.table.specs.Answers.{countsAnswer}
-use Rattle.table.proofs.Checks.{counts-law}
+use Rattle.payoff_tables.specs.Limits.{maxCells}
+use Rattle.payoff_tables.specs.Table.{cells}
+use Rattle.payoff_tables.specs.Checks.{countRefusal, countsRefusal}
+use Rattle.payoff_tables.specs.Answers.{countsAnswer}
+use Rattle.payoff_tables.proofs.Checks.{counts-law}
 use Rattle.table.proofs.Space.{Filled, filled-none, filled-more}
 use Rattle.words.specs.Words.{wordsOf, payloadAt}
 use Rattle.deposit.specs.Deposit.{countsIn, countFault}

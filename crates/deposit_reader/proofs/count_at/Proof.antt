@@ -7,7 +7,7 @@ use native.Mathlib.Omega.{arith}
 use borrow.Author.Needs.{needs}
 use Rattle.refusal.specs.Told.{toldUsize}
 use Rattle.refusal.proofs.Told.{told-values, refused-first}
-use Rattle.table.proofs.Checks.{count-zero, count-over, count-fits}
+use Rattle.payoff_tables.proofs.Checks.{count-zero, count-over, count-fits}
 use Rattle.words.specs.Words.{wordsOf, payloadAt}
 use Rattle.words.specs.Faults.{dueFault}
 use Rattle.deposit.specs.Deposit.{countFault}

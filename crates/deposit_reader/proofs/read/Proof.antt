@@ -15,8 +15,8 @@ use Rattle.refusal.specs.declared.NormalFormError.the-variants.{TooManyCells, O
 use Rattle.refusal.specs.Told.{toldUnit, toldUsize, values, unless}
 use Rattle.refusal.proofs.Refusal.{when-none, then-none, none-each}
 use Rattle.refusal.proofs.Told.{told-values, told-refused}
-use Rattle.table.specs.Limits.{maxPlayers, maxCells}
-use Rattle.table.specs.Table.{cells}
+use Rattle.payoff_tables.specs.Limits.{maxPlayers, maxCells}
+use Rattle.payoff_tables.specs.Table.{cells}
 use Rattle.words.specs.Words.{wordsOf}
 use Rattle.words.specs.Faults.{lengthFault, closingFault}
 use Rattle.deposit.specs.Deposit.{playersIn, countsIn, cellPlace, openingFault, countFault, cellFault, readRefusal}

@@ -9,9 +9,9 @@ use lib.ListN.{length}
 use lib.Ieee.{Float}
 use Rattle.refusal.specs.Told.{toldUsize, values}
 use Rattle.refusal.proofs.Told.{told-refused}
-use Rattle.table.specs.Limits.{maxPlayers, maxCells}
-use Rattle.table.specs.Checks.{tableRefusal}
-use Rattle.table.proofs.Table.{TableTold, table-told}
+use Rattle.payoff_tables.specs.Limits.{maxPlayers, maxCells}
+use Rattle.payoff_tables.specs.Checks.{tableRefusal}
+use Rattle.payoff_tables.proofs.Table.{TableTold, table-told}
 use Rattle.words.specs.Words.{word}
 use Rattle.deposit.specs.Deposit.{payoffWords, deposit}
 use Rattle.deposit_writer.specs.Put.{wordsPut}

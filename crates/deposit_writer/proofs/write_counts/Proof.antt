@@ -5,7 +5,7 @@ use Prim.Native.Nat.{_+_, _*_, _-_, _<_, _≤_}
 use native.Mathlib.Omega.{arith}
 use lib.ListN.{length, getD, take}
 use lib.Seq.{take-all}
-use Rattle.table.specs.Limits.{maxPlayers, maxStrategies}
+use Rattle.payoff_tables.specs.Limits.{maxPlayers, maxStrategies}
 use Rattle.words.specs.Words.{word}
 use Rattle.deposit_writer.specs.Put.{wordsPut}
 use Rattle.deposit_writer.proofs.Puts.{put-length, put-none, counts-more}

@@ -12,8 +12,8 @@ use lib.Dec.{T}
 use lib.ListN.{length, drop}
 use Rattle.game.specs.Finite.{below, product}
 use Rattle.game.proofs.Finite.{all-T, below-mem, test-true, test-false}
-use Rattle.table.specs.Limits.{maxCells}
-use Rattle.table.proofs.Walk.{Down, down}
+use Rattle.payoff_tables.specs.Limits.{maxCells}
+use Rattle.payoff_tables.proofs.Walk.{Down, down}
 use Rattle.equilibrium_search.specs.Found.{settledAt, Known}
 use Rattle.equilibrium_search.proofs.all_settled.Statement.{statement}
 use Rattle.equilibrium_search.proofs.all_settled.Tie as tie

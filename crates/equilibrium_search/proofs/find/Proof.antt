@@ -5,8 +5,8 @@ use mathlib.Core.Path.{_≡_, refl, sym, _∙_}
 use Prim.Native.Nat.{ℕ, suc, _+_, _*_, _-_, _≤_, _<_}
 use lib.ListN.{length, getD}
 use Rattle.game.specs.Finite.{product}
-use Rattle.table.specs.Limits.{maxCells}
-use Rattle.table.proofs.Walk.{shape-room}
+use Rattle.payoff_tables.specs.Limits.{maxCells}
+use Rattle.payoff_tables.proofs.Walk.{shape-room}
 use Rattle.equilibrium_search.specs.Found.{Known, Found}
 use Rattle.equilibrium_search.proofs.Rows.{row-room}
 use Rattle.equilibrium_search.proofs.find.Statement.{statement}

@@ -9,7 +9,7 @@ use Prim.Native.Nat.{ℕ, _+_, _*_, _-_, _≤_, _<_}
 use lib.Dec.{T}
 use lib.ListN.{length, getD, set, length-set}
 use Rattle.game.specs.Finite.{below}
-use Rattle.table.specs.Limits.{maxCells}
+use Rattle.payoff_tables.specs.Limits.{maxCells}
 use Rattle.strategy_row.proofs.Row.{lowest-below}
 use Rattle.equilibrium_search.specs.Found.{equilibriumAt, Known, Found}
 use Rattle.equilibrium_search.proofs.Rows.{found-more, row-struck, row-exceeded, row-reached, Row, row-facts}

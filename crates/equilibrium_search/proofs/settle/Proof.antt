@@ -8,7 +8,7 @@ use Prim.Native.Nat.{_+_, _*_, _/_, _%_}
 use lib.Dec.{T}
 use lib.ListN.{getD}
 use Rattle.game.proofs.Finite.{test-true, test-false}
-use Rattle.table.specs.Limits.{maxStrategies}
+use Rattle.payoff_tables.specs.Limits.{maxStrategies}
 use Rattle.equilibrium_search.proofs.Known.{Change, change}
 use borrow.Author.Needs.{needs}
 use Rattle.equilibrium_search.proofs.settle.Statement.{statement}

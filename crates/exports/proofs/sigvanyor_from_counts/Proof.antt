@@ -1,7 +1,7 @@
 -- `exports::sigvanyor_from_counts` meets its contract, by what the call told. Assumes nothing.
 use mathlib.Core.Path.{_∙_}
 use borrow.Author.Needs.{needs}
-use Rattle.table.specs.Checks.{countsRefusal}
+use Rattle.payoff_tables.specs.Checks.{countsRefusal}
 use Rattle.c_outputs.proofs.Outputs.{space-output}
 use Rattle.exports.proofs.sigvanyor_from_counts.Statement.{statement}
 use Rattle.exports.proofs.sigvanyor_from_counts.Tie as tie

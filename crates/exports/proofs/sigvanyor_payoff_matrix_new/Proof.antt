@@ -1,7 +1,7 @@
 -- `exports::sigvanyor_payoff_matrix_new` meets its contract, by what the call told. Assumes nothing.
 use mathlib.Core.Path.{_∙_}
 use borrow.Author.Needs.{needs}
-use Rattle.table.specs.Checks.{tableRefusal}
+use Rattle.payoff_tables.specs.Checks.{tableRefusal}
 use Rattle.c_outputs.proofs.Outputs.{space-output}
 use Rattle.exports.proofs.sigvanyor_payoff_matrix_new.Statement.{statement}
 use Rattle.exports.proofs.sigvanyor_payoff_matrix_new.Tie as tie

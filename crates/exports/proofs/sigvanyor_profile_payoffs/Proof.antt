@@ -9,9 +9,9 @@ use lib.Ieee.{Float}
 use Rattle.refusal.specs.Refusal.{Refusal, _then_}
 use Rattle.refusal.specs.Told.{toldUsize, unless, status}
 use Rattle.refusal.proofs.Told.{told-refused}
-use Rattle.table.specs.Table.{offset}
-use Rattle.table.specs.Checks.{tableRefusal, profileRefusal}
-use Rattle.table.proofs.Table.{PartTold, part-told}
+use Rattle.payoff_tables.specs.Table.{offset}
+use Rattle.payoff_tables.specs.Checks.{tableRefusal, profileRefusal}
+use Rattle.payoff_tables.proofs.Table.{PartTold, part-told}
 use Rattle.c_outputs.specs.Status.{output}
 use Rattle.exports.proofs.sigvanyor_profile_payoffs.Statement.{statement}
 use Rattle.exports.proofs.sigvanyor_profile_payoffs.Tie as tie

@@ -10,7 +10,7 @@ use native.Mathlib.Omega.{arith}
 use lib.ListN.{length, getD, drop}
 use lib.Seq.{drop-length}
 use Rattle.game.specs.Finite.{product}
-use Rattle.table.proofs.Walk.{Down, down, shape-some, shape-room}
+use Rattle.payoff_tables.proofs.Walk.{Down, down, shape-some, shape-room}
 use Rattle.marks.specs.Marks.{marked}
 use Rattle.marked_rows.specs.Rows.{Kept}
 use Rattle.marked_rows.proofs.Next.{chosen, zero-chosen, Changed, changed-up, kept-set, Firsts, firsts-none, firsts-more, firsts-keep, own-first, no-row, first-row, mark-none, first-mark}

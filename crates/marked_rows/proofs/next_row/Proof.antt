@@ -11,9 +11,9 @@ use native.Mathlib.Omega.{arith}
 use lib.ListN.{length, getD, drop}
 use lib.Seq.{drop-length}
 use Rattle.game.specs.Finite.{product}
-use Rattle.table.specs.Limits.{maxCells}
-use Rattle.table.proofs.Offsets.{nth-profile}
-use Rattle.table.proofs.Walk.{Down, down, shape-room}
+use Rattle.payoff_tables.specs.Limits.{maxCells}
+use Rattle.payoff_tables.proofs.Offsets.{nth-profile}
+use Rattle.payoff_tables.proofs.Walk.{Down, down, shape-room}
 use Rattle.marks.specs.Marks.{marked}
 use Rattle.marked_rows.specs.Rows.{Kept, MarkedRow}
 use Rattle.marked_rows.proofs.Next.{chosen, Changed, changed-up, down-fits, changed-down, kept-set, Fits, row-fits, own-first, own-last, Firsts, firsts-none, firsts-more, firsts-keep, Lasts, lasts-none, lasts-more, last-row, next-row, mark-fits, mark-none, first-mark, some-mark}

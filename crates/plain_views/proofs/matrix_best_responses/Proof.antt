@@ -52,7 +52,7 @@ use denote.Triple.Walked.{says, Stays, stay-dropped, walkOf, goes-dropped, Walks
 use denote.Exit.{yes}
 use denote.Triple.Clauses.{Lasts, ensured, lasts}
 use Rattle.written_lists.specs.Outputs.{over}
-use Rattle.table.specs.Limits.{maxPlayers, maxStrategies}
+use Rattle.payoff_tables.specs.Limits.{maxPlayers, maxStrategies}
 use Rattle.refusal.specs.Told.{toldUsize}
 use Rattle.refusal.specs.declared.UsizeResult.{UsizeResult}
 use Rattle.refusal.proofs.UsizeResult as U

@@ -40,9 +40,9 @@ use denote.Triple.Table.{entered, cited}
 use denote.Triple.Walked.{says, Stays, stay-dropped, walkOf, goes-dropped, Walks, ends-at, walked, walk-meets}
 use denote.Exit.{yes}
 use denote.Triple.Clauses.{ensured, lasts}
-use Rattle.table.specs.Limits.{maxPlayers}
+use Rattle.payoff_tables.specs.Limits.{maxPlayers}
 use Rattle.refusal.specs.Told.{toldUnit, unless, unlessRefused}
-use Rattle.table.specs.Checks.{tableRefusal}
+use Rattle.payoff_tables.specs.Checks.{tableRefusal}
 use Rattle.survivors.specs.Survivors.{freshOf, noSurvivors}
 use Rattle.survivors.specs.declared.FreshResult.{FreshResult}
 use Rattle.survivors.proofs.FreshResult as R

@@ -41,7 +41,7 @@ use denote.Triple.Table.{entered, cited}
 use denote.Triple.Walked.{says, Stays, stay-dropped, walkOf, goes-dropped, Walks, ends-at, walked, walk-meets}
 use denote.Exit.{yes}
 use denote.Triple.Clauses.{ensured, lasts}
-use Rattle.table.specs.Limits.{maxPlayers}
+use Rattle.payoff_tables.specs.Limits.{maxPlayers}
 use Rattle.refusal.specs.Told.{toldBool}
 use Rattle.pure_nash.specs.Answers.{isEquilibriumAnswer}
 use Rattle.refusal.specs.declared.BoolResult.{BoolResult}

@@ -41,12 +41,12 @@ use denote.Triple.Table.{entered, cited}
 use denote.Triple.Walked.{says, Stays, stay-dropped, walkOf, goes-dropped, Walks, ends-at, walked, walk-meets}
 use denote.Exit.{yes}
 use denote.Triple.Clauses.{ensured, lasts}
-use Rattle.table.specs.Limits.{maxPlayers}
+use Rattle.payoff_tables.specs.Limits.{maxPlayers}
 use Rattle.refusal.specs.Told.{toldUnit, unless}
 use Rattle.refusal.proofs.UnitResult as U
 use Rattle.refusal.proofs.UnitResult.Laws as U′
-use Rattle.table.specs.Answers.{spaceUnless}
-use Rattle.table.specs.Checks.{tableRefusal}
+use Rattle.table.specs.Space.{spaceUnless}
+use Rattle.payoff_tables.specs.Checks.{tableRefusal}
 use Rattle.table.specs.declared.SpaceResult.{SpaceResult}
 use Rattle.table.specs.declared.StrategySpace.{StrategySpace}
 use Rattle.table.proofs.SpaceResult as R

@@ -43,7 +43,7 @@ use denote.Triple.Walked.{says, Stays, stay-dropped, gave-slice, walkOf, goes-dr
 use denote.Exit.{yes}
 use denote.Triple.Clauses.{Lasts, ensured, lasts}
 use Rattle.written_lists.specs.Outputs.{over}
-use Rattle.table.specs.Limits.{maxPlayers}
+use Rattle.payoff_tables.specs.Limits.{maxPlayers}
 use Rattle.refusal.specs.Told.{toldUsize}
 use Rattle.strict_dominance.specs.Answers.{strategiesOf, dominatorsOf, dominatedAnswer, dominatedWritten}
 use Rattle.refusal.specs.declared.UsizeResult.{UsizeResult}

@@ -12,10 +12,10 @@ use Rattle.game.specs.Finite.{below}
 use Rattle.game.specs.Game.{profiles}
 use Rattle.game.proofs.Finite.{length-below}
 use Rattle.game.proofs.Game.{length-profiles}
-use Rattle.table.specs.Table.{profilePart}
-use Rattle.table.specs.Meaning.{Table}
-use Rattle.table.proofs.Offsets.{nth-profile}
-use Rattle.table.proofs.Table.{part-length}
+use Rattle.payoff_tables.specs.Table.{profilePart}
+use Rattle.payoff_tables.specs.Meaning.{Table}
+use Rattle.payoff_tables.proofs.Offsets.{nth-profile}
+use Rattle.payoff_tables.proofs.Table.{part-length}
 use Rattle.profile_listing.specs.Chosen.{chosen}
 use Rattle.profile_listing.proofs.Write.{Listing, chosen-many, listing-none, listing-length, listing-end, listing-no, listing-room, listing-yes, flat-length}
 use Rattle.profile_listing.proofs.list.Statement.{statement}

@@ -13,7 +13,7 @@ use Rattle.refusal.specs.Told.{values}
 use Rattle.refusal.specs.declared.NormalFormError.the-variants.{OutputTooShort}
 use Rattle.written_lists.specs.Outputs.{over}
 use Rattle.written_lists.proofs.Outputs.{first-short, second-short, room-fits}
-use Rattle.table.specs.Limits.{maxCells}
+use Rattle.payoff_tables.specs.Limits.{maxCells}
 use Rattle.profile_listing.specs.Chosen.{chosen}
 use Rattle.profile_listing.proofs.Listing.{found-many, chosen-most, found-fits, found-short}
 use borrow.Author.Needs.{needs}

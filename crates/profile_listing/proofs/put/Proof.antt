@@ -11,11 +11,11 @@ use lib.Seq.{drop-length}
 use lib.Ieee.{Float, nan}
 use Rattle.game.specs.Finite.{product}
 use Rattle.game.specs.Game.{profiles}
-use Rattle.table.specs.Limits.{maxCells}
-use Rattle.table.specs.Table.{payoffAt, profilePart}
-use Rattle.table.proofs.Offsets.{nth-profile, nth-choice, offset-nth}
-use Rattle.table.proofs.Table.{part-at, part-length}
-use Rattle.table.proofs.Walk.{down}
+use Rattle.payoff_tables.specs.Limits.{maxCells}
+use Rattle.payoff_tables.specs.Table.{payoffAt, profilePart}
+use Rattle.payoff_tables.proofs.Offsets.{nth-profile, nth-choice, offset-nth}
+use Rattle.payoff_tables.proofs.Table.{part-at, part-length}
+use Rattle.payoff_tables.proofs.Walk.{down}
 use Rattle.profile_listing.proofs.Write.{filled, fill-none, fill-more, fill-length}
 use Rattle.profile_listing.proofs.put.Statement.{statement}
 use Rattle.profile_listing.proofs.put.Tie as tie

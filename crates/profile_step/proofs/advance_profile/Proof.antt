@@ -7,7 +7,7 @@ use Prim.Native.Nat.{ℕ, _+_, _-_, _≤_}
 use native.Mathlib.Omega.{arith}
 use lib.ListN.{length, getD, take, length-set}
 use lib.Seq.{take-all}
-use Rattle.table.specs.Limits.{maxPlayers}
+use Rattle.payoff_tables.specs.Limits.{maxPlayers}
 use Rattle.profile_step.specs.Step.{step}
 use Rattle.profile_step.proofs.Step.{step-down-stop, step-down-carry, step-few}
 use Rattle.profile_step.proofs.advance_profile.Statement.{statement}

@@ -5,8 +5,8 @@ use lib.ListN.{length}
 use Rattle.refusal.specs.Refusal.{Refusal}
 use Rattle.refusal.specs.Told.{values, unless, toldUsize}
 use Rattle.refusal.proofs.Told.{refused-again}
-use Rattle.table.specs.Checks.{tableRefusal}
-use Rattle.table.proofs.Table.{TableTold, table-told}
+use Rattle.payoff_tables.specs.Checks.{tableRefusal}
+use Rattle.payoff_tables.proofs.Table.{TableTold, table-told}
 use Rattle.pure_nash.specs.Answers.{tableEquilibria, countAnswer}
 use Rattle.pure_nash.proofs.Laws.{whole-equilibria}
 use borrow.Author.Needs.{needs}

@@ -11,10 +11,10 @@ use Rattle.refusal.specs.Refusal.{Refusal}
 use Rattle.refusal.specs.Told.{toldUsize, refused}
 use Rattle.refusal.proofs.Told.{told-refused}
 use Rattle.written_lists.specs.Outputs.{over}
-use Rattle.table.specs.Limits.{maxMarks}
-use Rattle.table.specs.Table.{tableGame}
-use Rattle.table.specs.Checks.{tableRefusal}
-use Rattle.table.proofs.Table.{TableTold, table-told}
+use Rattle.payoff_tables.specs.Limits.{maxMarks}
+use Rattle.payoff_tables.specs.Table.{tableGame}
+use Rattle.payoff_tables.specs.Checks.{tableRefusal}
+use Rattle.payoff_tables.proofs.Table.{TableTold, table-told}
 use Rattle.marks.specs.Marks.{marked}
 use Rattle.pure_nash.specs.Answers.{listingAnswer, listedChoices, listedUtilities}
 use Rattle.pure_nash.proofs.Listing.{same-answer, same-choices, same-utilities, listing-refused}

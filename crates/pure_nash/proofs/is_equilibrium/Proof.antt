@@ -16,13 +16,13 @@ use Rattle.refusal.specs.Refusal.{Refusal, _then_}
 use Rattle.refusal.specs.Told.{values, unless, toldUsize}
 use Rattle.refusal.proofs.Refusal.{then-none}
 use Rattle.refusal.proofs.Told.{told-values, refused-again}
-use Rattle.table.specs.Limits.{maxMarks}
-use Rattle.table.specs.Table.{offset, tableGame}
-use Rattle.table.specs.Meaning.{Table}
-use Rattle.table.specs.Checks.{tableRefusal, profileRefusal}
-use Rattle.table.specs.Answers.{offsetAnswer}
-use Rattle.table.proofs.Checks.{table-law, profile-law}
-use Rattle.table.proofs.Offsets.{offset-below, nth-offset}
+use Rattle.payoff_tables.specs.Limits.{maxMarks}
+use Rattle.payoff_tables.specs.Table.{offset, tableGame}
+use Rattle.payoff_tables.specs.Meaning.{Table}
+use Rattle.payoff_tables.specs.Checks.{tableRefusal, profileRefusal}
+use Rattle.payoff_tables.specs.Answers.{offsetAnswer}
+use Rattle.payoff_tables.proofs.Checks.{table-law, profile-law}
+use Rattle.payoff_tables.proofs.Offsets.{offset-below, nth-offset}
 use Rattle.marks.specs.Marks.{marked}
 use Rattle.equilibrium_search.proofs.Known.{known-none}
 use Rattle.equilibrium_search.proofs.Rows.{equilibrium-settled}

@@ -7,9 +7,9 @@ use Prim.Native.Nat.{ℕ, _≤_}
 use lib.ListN.{length, length-replicate}
 use Rattle.game.specs.Finite.{below, product}
 use Rattle.game.specs.Solution.{equilibria}
-use Rattle.table.specs.Limits.{maxCells}
-use Rattle.table.specs.Table.{tableGame}
-use Rattle.table.proofs.Walk.{shape-room}
+use Rattle.payoff_tables.specs.Limits.{maxCells}
+use Rattle.payoff_tables.specs.Table.{tableGame}
+use Rattle.payoff_tables.proofs.Walk.{shape-room}
 use Rattle.marks.specs.Marks.{marked}
 use Rattle.equilibrium_search.specs.Found.{Found}
 use Rattle.equilibrium_search.proofs.Known.{known-none}

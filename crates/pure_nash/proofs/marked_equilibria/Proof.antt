@@ -11,9 +11,9 @@ use Rattle.game.specs.Finite.{product}
 use Rattle.game.specs.Game.{profiles}
 use Rattle.game.specs.Solution.{equilibria}
 use Rattle.written_lists.specs.Outputs.{over}
-use Rattle.table.specs.Limits.{maxCells}
-use Rattle.table.specs.Table.{tableGame}
-use Rattle.table.proofs.Walk.{shape-room}
+use Rattle.payoff_tables.specs.Limits.{maxCells}
+use Rattle.payoff_tables.specs.Table.{tableGame}
+use Rattle.payoff_tables.proofs.Walk.{shape-room}
 use Rattle.marks.specs.Marks.{marked}
 use Rattle.equilibrium_search.proofs.Known.{known-none}
 use Rattle.profile_listing.specs.Chosen.{chosen}

@@ -1,6 +1,6 @@
 -- `replay::is_space` is safe and ends. The measure is how many places are left. Assumes nothing.
 use Prim.Native.Nat.{_-_}
-use Rattle.table.specs.Limits.{maxPlayers}
+use Rattle.payoff_tables.specs.Limits.{maxPlayers}
 use borrow.Author.Needs.{needs}
 use Rattle.replay.proofs.is_space.Statement.{statement}
 use Rattle.replay.proofs.is_space.Tie as tie

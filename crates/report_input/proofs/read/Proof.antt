@@ -10,7 +10,7 @@ use lib.Ieee.{Float}
 use Rattle.refusal.specs.Refusal.{numberOf}
 use Rattle.refusal.specs.Told.{toldUsize, refused}
 use Rattle.written_lists.specs.Outputs.{writtenOf, over}
-use Rattle.table.specs.Limits.{maxPlayers}
+use Rattle.payoff_tables.specs.Limits.{maxPlayers}
 use Rattle.deposit.specs.Answers.{readAnswer}
 use Rattle.report_input.specs.Input.{maxReportCells, maxFileBytes, inputTable}
 use Rattle.report_input.proofs.Input.{over-told, counts-written, payoffs-written, players-told, short-told, refused-told}

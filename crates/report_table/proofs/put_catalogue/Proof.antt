@@ -7,8 +7,8 @@ use borrow.Author.Needs.{needs}
 use Rattle.refusal.specs.Refusal.{Refusal, numberOf}
 use Rattle.refusal.specs.Told.{values, unless, optionUsize}
 use Rattle.refusal.proofs.Told.{apart, told-values}
-use Rattle.table.specs.Table.{tableGame}
-use Rattle.table.proofs.Checks.{table-law}
+use Rattle.payoff_tables.specs.Table.{tableGame}
+use Rattle.payoff_tables.proofs.Checks.{table-law}
 use Rattle.catalogue.specs.Catalogue.{catalogue}
 use Rattle.catalogue.specs.Answers.{gameNumber, numberAnswer, toldNumber}
 use Rattle.outputs.proofs.Put.{puts-same}

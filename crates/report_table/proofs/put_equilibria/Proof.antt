@@ -13,9 +13,9 @@ use Rattle.refusal.specs.Told.{values, toldUsize, unless}
 use Rattle.refusal.proofs.Told.{apart}
 use Rattle.written_lists.proofs.Outputs.{room-fits}
 use Rattle.utility.specs.Order.{finite}
-use Rattle.table.specs.Table.{tableGame, profilePart}
-use Rattle.table.specs.Checks.{tableRefusal}
-use Rattle.table.proofs.Checks.{table-law}
+use Rattle.payoff_tables.specs.Table.{tableGame, profilePart}
+use Rattle.payoff_tables.specs.Checks.{tableRefusal}
+use Rattle.payoff_tables.proofs.Checks.{table-law}
 use Rattle.pure_nash.specs.Answers.{tableEquilibria, listingAnswer, equilibriaChoices, equilibriaUtilities}
 use Rattle.pure_nash.proofs.Listing.{listing-all}
 use Rattle.outputs.proofs.Put.{puts-more, puts-same}

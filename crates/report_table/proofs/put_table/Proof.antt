@@ -4,7 +4,7 @@ use Prim.Native.Nat.{ℕ}
 use borrow.Author.Needs.{needs}
 use lib.ListN.{length}
 use lib.Ieee.{Float}
-use Rattle.table.specs.Table.{tableGame}
+use Rattle.payoff_tables.specs.Table.{tableGame}
 use Rattle.catalogue.specs.Catalogue.{catalogue}
 use Rattle.catalogue.specs.Answers.{gameNumber}
 use Rattle.outputs.specs.Put.{Puts}

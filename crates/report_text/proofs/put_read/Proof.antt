@@ -13,9 +13,9 @@ use Rattle.game.specs.Finite.{product}
 use Rattle.refusal.specs.Refusal.{Refusal, numberOf}
 use Rattle.refusal.specs.Told.{values, toldUsize, unless}
 use Rattle.refusal.proofs.Told.{apart, told-values}
-use Rattle.table.specs.Table.{cells}
-use Rattle.table.specs.Meaning.{Table}
-use Rattle.table.proofs.Checks.{counts-law}
+use Rattle.payoff_tables.specs.Table.{cells}
+use Rattle.payoff_tables.specs.Meaning.{Table}
+use Rattle.payoff_tables.proofs.Checks.{counts-law}
 use Rattle.outputs.proofs.Put.{puts-same}
 use Rattle.report_input.specs.Input.{maxReportCells}
 use Rattle.report_table.specs.Report.{tableReport}

@@ -8,8 +8,8 @@ use lib.ListN.{length, take, replicate}
 use lib.Ieee.{Float, binary64, ofBits}
 use Rattle.refusal.specs.Refusal.{numberOf}
 use Rattle.refusal.specs.Told.{values, refused, toldOf, toldUsize}
-use Rattle.table.specs.Table.{cells}
-use Rattle.table.specs.Meaning.{Table}
+use Rattle.payoff_tables.specs.Table.{cells}
+use Rattle.payoff_tables.specs.Meaning.{Table}
 use Rattle.words.specs.Words.{Bytes, wordsOf}
 use Rattle.deposit.specs.Deposit.{countsIn, payoffsIn}
 use Rattle.outputs.proofs.Put.{puts-same}

@@ -46,7 +46,7 @@ use Rattle.refusal.specs.declared.UsizeResult.{UsizeResult}
 use Rattle.refusal.proofs.UsizeResult as U
 use Rattle.refusal.proofs.UsizeResult.Laws as U′
 use Rattle.written_lists.specs.Outputs.{over, written}
-use Rattle.table.specs.Limits.{maxStrategies}
+use Rattle.payoff_tables.specs.Limits.{maxStrategies}
 use Rattle.response_list.specs.Responses.{response, recordsAnswer, recordsWritten}
 use Rattle.response_list.specs.declared.BestResponse.{BestResponse}
 use Rattle.response_list.specs.declared.Found.{Found}

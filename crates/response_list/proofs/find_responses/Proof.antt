@@ -8,7 +8,7 @@ use lib.ListN.{take}
 use Rattle.refusal.specs.Refusal.{numberOf}
 use Rattle.refusal.specs.Told.{refused, toldUsize}
 use Rattle.written_lists.specs.Outputs.{over}
-use Rattle.table.specs.Limits.{maxStrategies}
+use Rattle.payoff_tables.specs.Limits.{maxStrategies}
 use Rattle.response_list.specs.Responses.{noRecords, recordsAnswer}
 use Rattle.response_list.proofs.Records.{allRecords, NumberTold, told-number, told-refusal, refused-records, short-records, listed-records, number-few, utility-finite, next-record}
 use Rattle.response_list.proofs.find_responses.Statement.{statement}

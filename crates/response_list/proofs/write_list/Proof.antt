@@ -52,7 +52,7 @@ use denote.Exit.{yes}
 use denote.Signature.{plain}
 use Rattle.written_lists.specs.Outputs.{over}
 use Rattle.written_lists.proofs.Outputs.{over-length, over-next}
-use Rattle.table.specs.Limits.{maxStrategies}
+use Rattle.payoff_tables.specs.Limits.{maxStrategies}
 use Rattle.refusal.proofs.UsizeResult as U
 use Rattle.refusal.proofs.UsizeResult.Laws as U′
 use Rattle.response_list.specs.Responses.{response}

@@ -11,11 +11,11 @@ use Rattle.game.specs.Finite.{product}
 use Rattle.refusal.specs.Refusal.{Refusal}
 use Rattle.refusal.specs.Told.{toldUsize, values, unless}
 use Rattle.refusal.proofs.Told.{apart, told-values}
-use Rattle.table.specs.Limits.{maxCells}
-use Rattle.table.specs.Meaning.{Table}
-use Rattle.table.specs.Answers.{countsAnswer}
+use Rattle.payoff_tables.specs.Limits.{maxCells}
+use Rattle.payoff_tables.specs.Meaning.{Table}
+use Rattle.payoff_tables.specs.Answers.{countsAnswer}
 use Rattle.written_lists.specs.Outputs.{over}
-use Rattle.table.proofs.Checks.{counts-law}
+use Rattle.payoff_tables.proofs.Checks.{counts-law}
 use Rattle.written_lists.proofs.Outputs.{over-length}
 use Rattle.words.specs.Words.{Bytes, wordsOf}
 use Rattle.deposit.specs.Deposit.{countsIn, payoffsIn, readRefusal}

@@ -8,11 +8,11 @@ use borrow.Author.Needs.{needs}
 use lib.ListN.{length, take}
 use lib.Ieee.{Float}
 use Rattle.refusal.specs.Told.{toldUsize}
-use Rattle.table.specs.Checks.{tableRefusal}
+use Rattle.payoff_tables.specs.Checks.{tableRefusal}
 use Rattle.written_lists.specs.Outputs.{over}
 use Rattle.written_lists.proofs.Outputs.{over-length}
 use Rattle.deposit.specs.Deposit.{deposit}
-use Rattle.table.specs.Meaning.{Doubles}
+use Rattle.payoff_tables.specs.Meaning.{Doubles}
 use Rattle.deposit.specs.Answers.{readAnswer, readCounts, readPayoffs}
 use Rattle.deposit.proofs.Writer.{write-accepted}
 use Rattle.round_trips.proofs.Calls.{taken, write-told, not-written, read-of-written}

@@ -12,8 +12,8 @@ use lib.ListN.{length, getD}
 use lib.Ieee.{Float, nan}
 use Rattle.utility.specs.Order.{greater}
 use Rattle.utility.specs.Value.{valueOf}
-use Rattle.table.specs.Table.{cellRank}
-use Rattle.table.proofs.Game.{cells-greater}
+use Rattle.payoff_tables.specs.Table.{cellRank}
+use Rattle.payoff_tables.proofs.Game.{cells-greater}
 use Rattle.strategy_row.proofs.Row.{first-cell, Found, found-none, found-old, found-new, found-end}
 use Rattle.strategy_row.proofs.best.Statement.{statement}
 use Rattle.strategy_row.proofs.best.Tie as tie

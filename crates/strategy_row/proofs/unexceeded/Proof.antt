@@ -9,7 +9,7 @@ use borrow.Author.Count.{below-more}
 use lib.Dec.{T}
 use lib.ListN.{length}
 use Rattle.game.proofs.Finite.{test-true}
-use Rattle.table.specs.Table.{cellRank}
+use Rattle.payoff_tables.specs.Table.{cellRank}
 use Rattle.strategy_row.proofs.Row.{On, at, unexceeded-T, exceeded}
 use Rattle.strategy_row.proofs.unexceeded.Statement.{statement}
 use Rattle.strategy_row.proofs.unexceeded.Tie as tie

@@ -14,8 +14,8 @@ use Rattle.game.specs.Game.{Game, whole}
 use Rattle.game.specs.Solution.{dominator}
 use Rattle.game.proofs.Ordinal.{marks-read}
 use Rattle.refusal.specs.Told.{optionUsize}
-use Rattle.table.specs.Limits.{maxStrategies, maxMarks}
-use Rattle.table.specs.Table.{tableGame}
+use Rattle.payoff_tables.specs.Limits.{maxStrategies, maxMarks}
+use Rattle.payoff_tables.specs.Table.{tableGame}
 use Rattle.marks.specs.Marks.{marked}
 use Rattle.marks.proofs.Marks.{marks-whole}
 use Rattle.strict_dominance.specs.Answers.{dominatedOf, dominatedStrategies}

@@ -11,7 +11,7 @@ use Rattle.refusal.specs.Refusal.{Refusal}
 use Rattle.refusal.specs.Told.{values, unless}
 use Rattle.written_lists.specs.Outputs.{roomRefusal, over}
 use Rattle.written_lists.proofs.Outputs.{first-short, second-short, room-fits}
-use Rattle.table.specs.Limits.{maxStrategies}
+use Rattle.payoff_tables.specs.Limits.{maxStrategies}
 use Rattle.strict_dominance.specs.Answers.{DominatedStrategy, dominatedStrategies}
 use Rattle.strict_dominance.proofs.Dominated.{table-few, Collected, first-length, second-length, first-taken, second-taken}
 use Rattle.strict_dominance.proofs.deliver.Statement.{statement}

@@ -19,9 +19,9 @@ use Rattle.game.specs.Meaning.{Dominator}
 use Rattle.game.proofs.Finite.{either, ltb-T}
 use Rattle.game.proofs.Sorted.{lowest-none, lowest-some}
 use Rattle.game.proofs.Solution.{dominator-law}
-use Rattle.table.specs.Limits.{maxStrategies, maxCells, maxMarks}
-use Rattle.table.specs.Table.{tableGame, cellRank}
-use Rattle.table.specs.Meaning.{Table}
+use Rattle.payoff_tables.specs.Limits.{maxStrategies, maxCells, maxMarks}
+use Rattle.payoff_tables.specs.Table.{tableGame, cellRank}
+use Rattle.payoff_tables.specs.Meaning.{Table}
 use Rattle.marks.specs.Marks.{marked}
 use Rattle.marks.proofs.Marks.{mark-at, mark-inside}
 use Rattle.marked_rows.specs.Rows.{MarkedRow, Kept}

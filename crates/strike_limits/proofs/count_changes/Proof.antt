@@ -1,6 +1,6 @@
 -- `strike_limits::count_changes` is safe and ends. The measure is how many players are left. Assumes nothing.
 use Prim.Native.Nat.{_-_}
-use Rattle.table.specs.Limits.{maxPlayers}
+use Rattle.payoff_tables.specs.Limits.{maxPlayers}
 use borrow.Author.Needs.{needs}
 use Rattle.strike_limits.proofs.count_changes.Statement.{statement}
 use Rattle.strike_limits.proofs.count_changes.Tie as tie

@@ -13,7 +13,7 @@ use Rattle.game.specs.Finite.{product}
 use Rattle.game.specs.Game.{Strategy, strategy}
 use Rattle.refusal.specs.Told.{Told, values, refused, toldUsize, status, tells}
 use Rattle.written_lists.specs.Outputs.{over}
-use Rattle.table.specs.Meaning.{Table}
+use Rattle.payoff_tables.specs.Meaning.{Table}
 use Rattle.survivors.specs.declared.Survivors.{Survivors}
 use Rattle.survivor_calls.specs.Answers.{handedBack, strikeAnswer, strikeLeaves}
 use Rattle.strike_lists.specs.Answers.{callsOf, Chain, chain, acceptedOf, dominatorOf}

@@ -16,8 +16,8 @@ use Rattle.refusal.specs.declared.NormalFormError.the-variants.{OutputTooShort}
 use Rattle.refusal.proofs.Told.{apart, told-values, told-refused}
 use Rattle.written_lists.specs.Outputs.{roomRefusal, over}
 use Rattle.written_lists.proofs.Outputs.{first-short, second-short, room-fits}
-use Rattle.table.specs.Checks.{tableRefusal}
-use Rattle.table.proofs.Checks.{table-law}
+use Rattle.payoff_tables.specs.Checks.{tableRefusal}
+use Rattle.payoff_tables.proofs.Checks.{table-law}
 use Rattle.survivors.specs.declared.Survivors.{Survivors}
 use Rattle.survivors.specs.Survivors.{freshOf, noSurvivors}
 use Rattle.strike_lists.specs.Answers.{callsOf, dominatorOf, answersSaid, strikesRefusal, strikesAnswer, strikesLeave, strikesWritten}

@@ -1,6 +1,6 @@
 -- `strike_orders::same_marks` is safe and ends. The measure is how many places are left. Assumes nothing.
 use Prim.Native.Nat.{_-_}
-use Rattle.table.specs.Limits.{maxMarks}
+use Rattle.payoff_tables.specs.Limits.{maxMarks}
 use borrow.Author.Needs.{needs}
 use Rattle.strike_orders.proofs.same_marks.Statement.{statement}
 use Rattle.strike_orders.proofs.same_marks.Tie as tie

@@ -10,7 +10,7 @@ use lib.Ieee.{Float}
 use Rattle.game.specs.Finite.{sum}
 use Rattle.game.specs.Game.{Strategy}
 use Rattle.refusal.specs.Told.{unlessRefused}
-use Rattle.table.specs.Checks.{tableRefusal}
+use Rattle.payoff_tables.specs.Checks.{tableRefusal}
 use Rattle.written_lists.specs.Outputs.{over}
 use Rattle.survivors.specs.declared.Survivors.{Survivors}
 use Rattle.survivors.specs.Survivors.{freshOf, noSurvivors, markCount}

@@ -9,8 +9,8 @@ use Rattle.game.specs.Game.{Strategy, strategy}
 use Rattle.refusal.specs.Told.{refused, toldUsize}
 use Rattle.refusal.specs.declared.NormalFormError.the-variants.{ForeignSurvivors}
 use Rattle.refusal.proofs.Told.{told-refused}
-use Rattle.table.specs.Checks.{tableRefusal}
-use Rattle.table.proofs.Table.{TableTold, table-told}
+use Rattle.payoff_tables.specs.Checks.{tableRefusal}
+use Rattle.payoff_tables.proofs.Table.{TableTold, table-told}
 use Rattle.survivors.specs.declared.Survivors.{Survivors}
 use Rattle.survivor_calls.specs.Answers.{handedBack, survivorsRefusal, strikeLeaves}
 use Rattle.survivor_calls.proofs.Cases.{strike-refused, strike-told, table-first, then-foreign, not-foreign}

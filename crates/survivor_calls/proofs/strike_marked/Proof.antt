@@ -13,8 +13,8 @@ use Rattle.game.specs.Game.{strategy}
 use Rattle.game.specs.Strikes.{ruling, answer}
 use Rattle.refusal.specs.Told.{optionUsize}
 use Rattle.refusal.specs.declared.UsizeOption.{UsizeOption}
-use Rattle.table.specs.Table.{tableGame}
-use Rattle.table.specs.Limits.{maxPlayers, maxStrategies, maxMarks}
+use Rattle.payoff_tables.specs.Table.{tableGame}
+use Rattle.payoff_tables.specs.Limits.{maxPlayers, maxStrategies, maxMarks}
 use Rattle.marks.specs.Marks.{marked}
 use Rattle.marks.proofs.Marks.{mark-at, mark-inside}
 use Rattle.survivors.specs.declared.Survivors.{Survivors}

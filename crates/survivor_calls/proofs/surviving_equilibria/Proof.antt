@@ -13,8 +13,8 @@ use Rattle.refusal.specs.declared.NormalFormError.{NormalFormError}
 use Rattle.refusal.specs.declared.NormalFormError.the-variants.{ForeignSurvivors}
 use Rattle.refusal.proofs.Told.{told-refused}
 use Rattle.written_lists.specs.Outputs.{over}
-use Rattle.table.specs.Checks.{tableRefusal}
-use Rattle.table.proofs.Table.{TableTold, table-told}
+use Rattle.payoff_tables.specs.Checks.{tableRefusal}
+use Rattle.payoff_tables.proofs.Table.{TableTold, table-told}
 use Rattle.pure_nash.specs.Answers.{listingAnswer, listedChoices, listedUtilities}
 use Rattle.survivors.specs.declared.Survivors.{Survivors}
 use Rattle.survivors.specs.Survivors.{marksOf}

@@ -3,7 +3,7 @@ use mathlib.Core.Path.{refl}
 use mathlib.Core.Logic.{⊎-elim}
 use Prim.Native.Nat.{_≤_, _-_}
 use native.Mathlib.Omega.{arith}
-use Rattle.table.specs.Limits.{maxMarks}
+use Rattle.payoff_tables.specs.Limits.{maxMarks}
 use Rattle.survivors.proofs.Marks.{Filled, filled-none, filled-past, filled-stays, filled-all}
 use Rattle.survivors.proofs.all_marked.Statement.{statement}
 use Rattle.survivors.proofs.all_marked.Tie as tie

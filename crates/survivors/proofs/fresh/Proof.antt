@@ -7,10 +7,10 @@ use native.Mathlib.Omega.{arith}
 use borrow.Author.Needs.{needs}
 use lib.Ieee.{Float}
 use Rattle.refusal.specs.Refusal.{Refusal}
-use Rattle.table.specs.Checks.{tableRefusal}
-use Rattle.table.specs.Answers.{spaceOf, spaceUnless}
+use Rattle.payoff_tables.specs.Checks.{tableRefusal}
+use Rattle.table.specs.Space.{spaceOf, spaceUnless}
 use Rattle.table.specs.declared.StrategySpace.{StrategySpace}
-use Rattle.table.proofs.Checks.{table-law}
+use Rattle.payoff_tables.proofs.Checks.{table-law}
 use Rattle.survivors.specs.declared.Survivors.{Survivors}
 use Rattle.refusal.specs.Told.{unlessRefused}
 use Rattle.survivors.specs.Survivors.{allMarks, freshOf, noSurvivors}

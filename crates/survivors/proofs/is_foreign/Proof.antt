@@ -11,7 +11,7 @@ use lib.Dec.{T}
 use lib.ListN.{length, getD}
 use Rattle.survivors.specs.declared.Survivors.{Survivors}
 use mathlib.Core.List.{List}
-use Rattle.table.specs.Limits.{maxPlayers}
+use Rattle.payoff_tables.specs.Limits.{maxPlayers}
 use Rattle.marks.specs.Marks.{marked}
 use Rattle.survivors.specs.Survivors.{markedFrom}
 use Rattle.survivors.proofs.Foreign.{OwnTo, own-start, own-more, own-all, own-marked, own-none, foreign-past, not-own}

@@ -9,7 +9,7 @@ use native.Mathlib.Omega.{arith}
 use lib.Dec.{T}
 use lib.ListN.{getD}
 use Rattle.game.proofs.Finite.{test-true, test-false}
-use Rattle.table.specs.Limits.{maxStrategies, maxMarks}
+use Rattle.payoff_tables.specs.Limits.{maxStrategies, maxMarks}
 use Rattle.marks.specs.Marks.{marked}
 use Rattle.marks.proofs.Marks.{mark-at, mark-inside}
 use Rattle.survivors.proofs.Foreign.{marked-from-law}

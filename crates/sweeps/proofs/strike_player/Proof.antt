@@ -10,7 +10,7 @@ use lib.Ieee.{Float}
 use Rattle.game.specs.Finite.{below}
 use Rattle.game.specs.Game.{strategy}
 use Rattle.game.proofs.Finite.{below-last}
-use Rattle.table.specs.Limits.{maxStrategies}
+use Rattle.payoff_tables.specs.Limits.{maxStrategies}
 use Rattle.sweeps.specs.Progress.{Runs}
 use Rattle.sweeps.proofs.Runs.{runs-length, runs-none, runs-ready, runs-as, runs-append}
 use Rattle.sweeps.proofs.strike_player.Statement.{statement}

@@ -9,7 +9,7 @@ use lib.Ieee.{Float}
 use Rattle.game.specs.Finite.{below}
 use Rattle.game.specs.Game.{Strategy, strategy, strategies}
 use Rattle.game.proofs.Finite.{below-last, flatMap-last}
-use Rattle.table.specs.Table.{tableGame}
+use Rattle.payoff_tables.specs.Table.{tableGame}
 use Rattle.sweeps.specs.Progress.{Runs}
 use Rattle.sweeps.proofs.Runs.{runs-length, runs-none, runs-ready, runs-as, runs-append}
 use Rattle.sweeps.proofs.sweep.Statement.{statement}

@@ -10,8 +10,8 @@ use lib.ListN.{length}
 use lib.Ieee.{Float}
 use Rattle.game.specs.Finite.{product}
 use Rattle.refusal.specs.Refusal.{Refusal}
-use Rattle.table.specs.Meaning.{Table}
-use Rattle.table.proofs.Checks.{table-law}
+use Rattle.payoff_tables.specs.Meaning.{Table}
+use Rattle.payoff_tables.proofs.Checks.{table-law}
 use Rattle.survivors.specs.declared.Survivors.{Survivors}
 use Rattle.refusal.specs.Told.{unlessRefused}
 use Rattle.survivors.specs.Survivors.{markCount, freshOf, noSurvivors}

@@ -1,7 +1,7 @@
 -- `table::exceeds` meets its contract: the two utilities compare as the ranks of their cells. That an f64 in a slice fits its format is known
 -- of every slice. Assumes nothing.
 use mathlib.Core.Path.{_∙_}
-use Rattle.table.proofs.Game.{cells-greater}
+use Rattle.payoff_tables.proofs.Game.{cells-greater}
 use borrow.Author.Needs.{needs}
 use Rattle.table.proofs.exceeds.Statement.{statement}
 use Rattle.table.proofs.exceeds.Tie as tie

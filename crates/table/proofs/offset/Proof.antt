@@ -4,8 +4,8 @@ use mathlib.Core.Option.{none}
 use borrow.Author.Needs.{needs}
 use Rattle.refusal.specs.Told.{toldUsize}
 use Rattle.refusal.proofs.Told.{told-values, refused-first}
-use Rattle.table.specs.Checks.{tableRefusal}
-use Rattle.table.proofs.Checks.{table-counts}
+use Rattle.payoff_tables.specs.Checks.{tableRefusal}
+use Rattle.payoff_tables.proofs.Checks.{table-counts}
 use Rattle.table.proofs.offset.Statement.{statement}
 use Rattle.table.proofs.offset.Tie as tie
 

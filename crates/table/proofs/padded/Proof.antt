@@ -3,7 +3,7 @@
 use mathlib.Core.Logic.{⊎-elim}
 use Prim.Native.Nat.{_≤_, _-_}
 use native.Mathlib.Omega.{arith}
-use Rattle.table.specs.Limits.{maxPlayers}
+use Rattle.payoff_tables.specs.Limits.{maxPlayers}
 use Rattle.table.proofs.Space.{Filled, filled-none, filled-more, filled-past, filled-all}
 use Rattle.table.proofs.padded.Statement.{statement}
 use Rattle.table.proofs.padded.Tie as tie

@@ -11,12 +11,12 @@ use lib.Ieee.{Float, nan}
 use Rattle.refusal.specs.Told.{values, toldUsize}
 use Rattle.refusal.proofs.Told.{told-values, refused-again, refused-first}
 use Rattle.utility.proofs.Made.{finite-told}
-use Rattle.table.specs.Limits.{maxCells}
-use Rattle.table.specs.Table.{offset, cell, payoffAt}
-use Rattle.table.specs.Checks.{tableRefusal, profileRefusal}
-use Rattle.table.specs.Meaning.{Table}
-use Rattle.table.proofs.Checks.{table-counts, table-law, player-law, no-player, profile-law}
-use Rattle.table.proofs.Offsets.{cell-below}
+use Rattle.payoff_tables.specs.Limits.{maxCells}
+use Rattle.payoff_tables.specs.Table.{offset, cell, payoffAt}
+use Rattle.payoff_tables.specs.Checks.{tableRefusal, profileRefusal}
+use Rattle.payoff_tables.specs.Meaning.{Table}
+use Rattle.payoff_tables.proofs.Checks.{table-counts, table-law, player-law, no-player, profile-law}
+use Rattle.payoff_tables.proofs.Offsets.{cell-below}
 use Rattle.table.proofs.payoff.Statement.{statement}
 use Rattle.table.proofs.payoff.Tie as tie
 

@@ -7,10 +7,10 @@ use native.Mathlib.Omega.{arith}
 use borrow.Author.Count.{below-more}
 use lib.ListN.{length, getD, drop}
 use Rattle.game.specs.Finite.{product}
-use Rattle.table.specs.Limits.{maxStrategies}
-use Rattle.table.specs.Checks.{countRefusal}
-use Rattle.table.proofs.Checks.{count-zero, count-over, count-fits, no-players, many-players, bad-count, many-cells, counts-fit}
-use Rattle.table.proofs.Products.{product-more, product-end, power-more, power-cap}
+use Rattle.payoff_tables.specs.Limits.{maxStrategies}
+use Rattle.payoff_tables.specs.Checks.{countRefusal}
+use Rattle.payoff_tables.proofs.Checks.{count-zero, count-over, count-fits, no-players, many-players, bad-count, many-cells, counts-fit}
+use Rattle.payoff_tables.proofs.Products.{product-more, product-end, power-more, power-cap}
 use Rattle.table.proofs.profile_count.Statement.{statement}
 use Rattle.table.proofs.profile_count.Tie as tie
 

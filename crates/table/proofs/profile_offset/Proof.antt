@@ -8,11 +8,11 @@ use lib.ListN.{length, getD, take, drop}
 use lib.Seq.{drop-length}
 use Rattle.game.specs.Finite.{product}
 use Rattle.game.specs.Game.{choice, Profile}
-use Rattle.table.specs.Table.{offset, offsetFrom}
-use Rattle.table.specs.Meaning.{Shape}
-use Rattle.table.proofs.Checks.{counts-law, wrong-length, bad-choice, profile-law}
-use Rattle.table.proofs.Offsets.{offset-more, offset-so-far}
-use Rattle.table.proofs.Walk.{offset-room}
+use Rattle.payoff_tables.specs.Table.{offset, offsetFrom}
+use Rattle.payoff_tables.specs.Meaning.{Shape}
+use Rattle.payoff_tables.proofs.Checks.{counts-law, wrong-length, bad-choice, profile-law}
+use Rattle.payoff_tables.proofs.Offsets.{offset-more, offset-so-far}
+use Rattle.payoff_tables.proofs.Walk.{offset-room}
 use Rattle.table.proofs.profile_offset.Statement.{statement}
 use Rattle.table.proofs.profile_offset.Tie as tie
 

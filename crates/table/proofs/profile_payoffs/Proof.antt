@@ -10,9 +10,9 @@ use lib.Ieee.{Float}
 use Rattle.refusal.specs.Refusal.{Refusal, _then_}
 use Rattle.refusal.specs.Told.{toldUsize, unlessRefused}
 use Rattle.refusal.proofs.Told.{told-refused}
-use Rattle.table.specs.Table.{profilePart}
-use Rattle.table.specs.Checks.{tableRefusal, profileRefusal}
-use Rattle.table.proofs.Table.{PartTold, part-told}
+use Rattle.payoff_tables.specs.Table.{profilePart}
+use Rattle.payoff_tables.specs.Checks.{tableRefusal, profileRefusal}
+use Rattle.payoff_tables.proofs.Table.{PartTold, part-told}
 use Rattle.table.proofs.profile_payoffs.Statement.{statement}
 use Rattle.table.proofs.profile_payoffs.Tie as tie
 

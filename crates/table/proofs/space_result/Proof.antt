@@ -6,7 +6,7 @@ use lib.ListN.{length}
 use borrow.Author.Needs.{needs}
 use Rattle.refusal.specs.declared.UnitResult.the-variants.{Ok}
 use Rattle.refusal.specs.declared.UsizeResult.{UsizeResult}
-use Rattle.table.specs.Answers.{spaceOf, spaceResult}
+use Rattle.table.specs.Space.{spaceOf, spaceResult}
 use Rattle.table.specs.declared.SpaceResult.{SpaceResult}
 use Rattle.table.proofs.space_result.Statement.{statement}
 use Rattle.table.proofs.space_result.Tie as tie

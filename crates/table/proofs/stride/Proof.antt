@@ -6,8 +6,8 @@ use Prim.Native.Nat.{ℕ, suc, _-_, _≤_, _<_}
 use lib.ListN.{length, drop}
 use lib.Seq.{drop-length}
 use Rattle.game.specs.Finite.{product}
-use Rattle.table.specs.Table.{stride}
-use Rattle.table.proofs.Walk.{Down, down}
+use Rattle.payoff_tables.specs.Table.{stride}
+use Rattle.payoff_tables.proofs.Walk.{Down, down}
 use Rattle.table.proofs.stride.Statement.{statement}
 use Rattle.table.proofs.stride.Tie as tie
 

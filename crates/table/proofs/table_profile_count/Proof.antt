@@ -11,10 +11,10 @@ use lib.ListN.{length}
 use Rattle.game.specs.Finite.{product}
 use Rattle.refusal.specs.Told.{toldUsize}
 use Rattle.refusal.proofs.Told.{told-values, refused-first}
-use Rattle.table.specs.Limits.{maxCells}
-use Rattle.table.specs.Table.{cells}
-use Rattle.table.specs.Checks.{countsRefusal, tableRefusal}
-use Rattle.table.proofs.Checks.{counts-law, wrong-size, not-finite, table-fits}
+use Rattle.payoff_tables.specs.Limits.{maxCells}
+use Rattle.payoff_tables.specs.Table.{cells}
+use Rattle.payoff_tables.specs.Checks.{countsRefusal, tableRefusal}
+use Rattle.payoff_tables.proofs.Checks.{counts-law, wrong-size, not-finite, table-fits}
 use Rattle.table.proofs.table_profile_count.Statement.{statement}
 use Rattle.table.proofs.table_profile_count.Tie as tie
 

@@ -2,7 +2,7 @@
 use mathlib.Core.Path.{ap, _∙_}
 use borrow.Author.Needs.{needs}
 use Rattle.refusal.specs.Told.{toldUnit}
-use Rattle.table.specs.Checks.{countsRefusal}
+use Rattle.payoff_tables.specs.Checks.{countsRefusal}
 use Rattle.table.specs.declared.SpaceResult.{SpaceResult}
 use Rattle.table.proofs.Space.{space-told}
 use Rattle.table.proofs.StrategySpace.from_counts.Statement.{statement}

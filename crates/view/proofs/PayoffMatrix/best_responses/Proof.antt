@@ -47,7 +47,7 @@ use Rattle.refusal.specs.declared.UsizeResult.{UsizeResult}
 use Rattle.refusal.proofs.UsizeResult as R
 use Rattle.refusal.proofs.UsizeResult.Laws as R′
 use Rattle.written_lists.specs.Outputs.{over, written}
-use Rattle.table.specs.Limits.{maxStrategies}
+use Rattle.payoff_tables.specs.Limits.{maxStrategies}
 use Rattle.view.specs.Matrix.{countsOf}
 use Rattle.response_list.specs.Responses.{response, recordsAnswer, recordsWritten}
 use Rattle.response_list.specs.declared.BestResponse.{BestResponse}

@@ -34,7 +34,7 @@ use denote.Triple.Walked.{says, Stays, stay-dropped, walkOf, goes-dropped, Walks
 use denote.Exit.{yes}
 use denote.Triple.Clauses.{ensured, lasts}
 use Rattle.refusal.specs.Told.{toldUnit, unless, unlessRefused}
-use Rattle.table.specs.Checks.{tableRefusal}
+use Rattle.payoff_tables.specs.Checks.{tableRefusal}
 use Rattle.survivors.specs.Survivors.{freshOf, noSurvivors}
 use Rattle.survivors.specs.declared.FreshResult.{FreshResult}
 use Rattle.survivors.proofs.FreshResult as R

@@ -14,13 +14,13 @@ use Rattle.refusal.specs.Refusal.{_then_}
 use Rattle.refusal.specs.Told.{values}
 use Rattle.refusal.proofs.Refusal.{then-none}
 use Rattle.refusal.proofs.Told.{told-values}
-use Rattle.table.specs.Limits.{maxCells}
-use Rattle.table.specs.Table.{cells, offset, payoffAt, profilePart}
-use Rattle.table.specs.Checks.{tableRefusal, profileRefusal}
-use Rattle.table.specs.Meaning.{Table}
-use Rattle.table.specs.Answers.{tableAnswer, offsetAnswer}
-use Rattle.table.proofs.Checks.{table-law, profile-law}
-use Rattle.table.proofs.Offsets.{offset-below}
+use Rattle.payoff_tables.specs.Limits.{maxCells}
+use Rattle.payoff_tables.specs.Table.{cells, offset, payoffAt, profilePart}
+use Rattle.payoff_tables.specs.Checks.{tableRefusal, profileRefusal}
+use Rattle.payoff_tables.specs.Meaning.{Table}
+use Rattle.payoff_tables.specs.Answers.{tableAnswer, offsetAnswer}
+use Rattle.payoff_tables.proofs.Checks.{table-law, profile-law}
+use Rattle.payoff_tables.proofs.Offsets.{offset-below}
 
 -- The part's p-th payoff is player p's.
 pub part-at : (cs : List ℕ) (payoffs : List Float) (x : List ℕ) (p : ℕ) → p < length cs

@@ -10,8 +10,8 @@ use Rattle.game.specs.Game.{choice}
 use Rattle.refusal.specs.Refusal.{Refusal, when, _then_, each}
 use Rattle.refusal.specs.declared.NormalFormError.the-variants.{NoPlayers, TooManyPlayers, NoStrategies, TooManyStrategies, TooManyCells, PayoffCount, NonFiniteUtility, InvalidPlayer, ProfileCount, InvalidStrategy}
 use Rattle.utility.specs.Order.{finite}
-use Rattle.table.specs.Limits.{maxPlayers, maxStrategies, maxCells}
-use Rattle.table.specs.Table.{cells}
+use Rattle.payoff_tables.specs.Limits.{maxPlayers, maxStrategies, maxCells}
+use Rattle.payoff_tables.specs.Table.{cells}
 
 -- a count is 0 (3), or over the limit (4)
 unfoldable pub countRefusal : ℕ → Refusal

@@ -9,7 +9,7 @@ use native.Mathlib.Omega.{arith}
 use lib.ListN.{length, getD, drop}
 use lib.Seq.{drop-cons, drop-length}
 use Rattle.game.specs.Finite.{product}
-use Rattle.table.specs.Limits.{maxPlayers, maxStrategies}
+use Rattle.payoff_tables.specs.Limits.{maxPlayers, maxStrategies}
 
 -- one count more
 pub product-more : (cs : List ℕ) (p m n : ℕ) → p < length cs → m * product (drop p cs) ≡ n → m * getD cs p 0 * product (drop (p + 1) cs) ≡ n

@@ -19,10 +19,10 @@ use Rattle.refusal.specs.declared.NormalFormError.the-variants.{NoPlayers, TooM
 use Rattle.refusal.proofs.Refusal.{when-none, then-none, each-none, each-some, none-each}
 use Rattle.utility.specs.Order.{finite}
 use Rattle.utility.proofs.All.{all-at, at-all}
-use Rattle.table.specs.Limits.{maxPlayers, maxStrategies, maxCells}
-use Rattle.table.specs.Table.{cells}
-use Rattle.table.specs.Checks.{countRefusal, countsRefusal, payoffsRefusal, tableRefusal, playerRefusal, profileRefusal}
-use Rattle.table.specs.Meaning.{Shape, Table}
+use Rattle.payoff_tables.specs.Limits.{maxPlayers, maxStrategies, maxCells}
+use Rattle.payoff_tables.specs.Table.{cells}
+use Rattle.payoff_tables.specs.Checks.{countRefusal, countsRefusal, payoffsRefusal, tableRefusal, playerRefusal, profileRefusal}
+use Rattle.payoff_tables.specs.Meaning.{Shape, Table}
 
 -- ---- one count
 

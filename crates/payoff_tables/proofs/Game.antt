@@ -10,9 +10,9 @@ use lib.Ieee.{Float, nan, binary64, fits, lt, eq}
 use Rattle.game.specs.Game.{players, count, Playable, Profile}
 use Rattle.utility.specs.Order.{finite, greater}
 use Rattle.utility.proofs.Laws.{lt-rank, eq-rank, greater-rank}
-use Rattle.table.specs.Table.{payoffAt, cell, cellRank, tableGame}
-use Rattle.table.specs.Meaning.{Shape, Finites, Table}
-use Rattle.table.proofs.Offsets.{cell-below}
+use Rattle.payoff_tables.specs.Table.{payoffAt, cell, cellRank, tableGame}
+use Rattle.payoff_tables.specs.Meaning.{Shape, Finites, Table}
+use Rattle.payoff_tables.proofs.Offsets.{cell-below}
 
 module _ (counts : List ℕ) (payoffs : List Float) where
   pub game-players : players (tableGame counts payoffs) ≡ length counts

@@ -14,7 +14,7 @@ use Rattle.game.specs.Finite.{_∈_, below, product, Sorted}
 use Rattle.game.specs.Game.{choice, Profile, profiles, Earlier}
 use Rattle.game.proofs.Finite.{length-below}
 use Rattle.game.proofs.Game.{tail-profile, profiles-law, length-profiles, set-profile}
-use Rattle.table.specs.Table.{cells, offsetFrom, offset, stride, cell}
+use Rattle.payoff_tables.specs.Table.{cells, offsetFrom, offset, stride, cell}
 
 -- ---- products
 

@@ -10,11 +10,11 @@ use lib.Ieee.{Float}
 use Rattle.game.specs.Finite.{product}
 use Rattle.game.specs.Game.{Profile, profiles}
 use Rattle.game.proofs.Game.{set-profile}
-use Rattle.table.specs.Limits.{maxPlayers, maxStrategies, maxCells}
-use Rattle.table.specs.Table.{cells, offset, stride, cell, payoffAt, cellRank, tableGame}
-use Rattle.table.specs.Meaning.{Shape}
-use Rattle.table.proofs.Products.{product-positive}
-use Rattle.table.proofs.Offsets.{product-drop, take-at-most, drop-at-most, drop-positive, offset-so-far, offset-set, cell-below, walk-base}
+use Rattle.payoff_tables.specs.Limits.{maxPlayers, maxStrategies, maxCells}
+use Rattle.payoff_tables.specs.Table.{cells, offset, stride, cell, payoffAt, cellRank, tableGame}
+use Rattle.payoff_tables.specs.Meaning.{Shape}
+use Rattle.payoff_tables.proofs.Products.{product-positive}
+use Rattle.payoff_tables.proofs.Offsets.{product-drop, take-at-most, drop-at-most, drop-positive, offset-so-far, offset-set, cell-below, walk-base}
 
 -- ---- counts without a refusal
 

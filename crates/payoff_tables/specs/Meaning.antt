@@ -6,8 +6,8 @@ use lib.Dec.{T}
 use lib.ListN.{length, getD}
 use lib.Ieee.{Float, nan, binary64, fits}
 use Rattle.utility.specs.Order.{finite}
-use Rattle.table.specs.Limits.{maxPlayers, maxStrategies, maxCells}
-use Rattle.table.specs.Table.{cells}
+use Rattle.payoff_tables.specs.Limits.{maxPlayers, maxStrategies, maxCells}
+use Rattle.payoff_tables.specs.Table.{cells}
 
 -- counts with none of refusals 1 to 5
 pub record Shape (counts : List ℕ) : Type 0 where

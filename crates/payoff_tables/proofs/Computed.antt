@@ -10,10 +10,10 @@ use lib.Ieee.{Float, nan, inf, fin}
 use Rattle.game.specs.Finite.{below}
 use Rattle.refusal.specs.Told.{values, refused}
 use Rattle.utility.specs.Order.{finite}
-use Rattle.table.specs.Limits.{maxPlayers, maxStrategies}
-use Rattle.table.specs.Table.{cells, offset, stride, cell, payoffAt, profilePart}
-use Rattle.table.specs.Checks.{countRefusal, countsRefusal, payoffsRefusal, tableRefusal, playerRefusal, profileRefusal}
-use Rattle.table.specs.Answers.{spaceOf, countsAnswer, tableAnswer, offsetAnswer, payoffAnswer, profilePayoffs}
+use Rattle.payoff_tables.specs.Limits.{maxPlayers, maxStrategies}
+use Rattle.payoff_tables.specs.Table.{cells, offset, stride, cell, payoffAt, profilePart}
+use Rattle.payoff_tables.specs.Checks.{countRefusal, countsRefusal, payoffsRefusal, tableRefusal, playerRefusal, profileRefusal}
+use Rattle.payoff_tables.specs.Answers.{countsAnswer, tableAnswer, offsetAnswer, payoffAnswer, profilePayoffs, partFirst}
 
 -- three players, of 2, 3 and 4 strategies
 counts : List ℕ
@@ -55,13 +55,15 @@ record Computed : Type 0 where
   choice-at-count : payoffAnswer (1 ∷ []) (one ∷ []) (1 ∷ []) 0 ≡ refused 12
   payoff-told : payoffAnswer (1 ∷ []) (one ∷ []) (0 ∷ []) 0 ≡ values one
   offset-refused : offsetAnswer (1 ∷ []) (one ∷ []) (1 ∷ []) ≡ refused 12
+  offset-without-payoffs : offsetAnswer (1 ∷ []) [] (0 ∷ []) ≡ refused 6
   part-told : profilePayoffs (1 ∷ []) (one ∷ []) (0 ∷ []) ≡ one ∷ []
   part-refused : profilePayoffs (1 ∷ []) (one ∷ []) (1 ∷ []) ≡ []
-  -- two counts in eight places
-  space-places : spaceOf (2 ∷ 3 ∷ []) .counts ≡ 2 ∷ 3 ∷ 0 ∷ 0 ∷ 0 ∷ 0 ∷ 0 ∷ 0 ∷ []
+  -- the second profile's part starts at the second cell, and a refused call's at the first
+  part-place : partFirst (2 ∷ []) (one ∷ one ∷ []) (1 ∷ []) ≡ 1
+  no-part-place : partFirst (2 ∷ []) (one ∷ one ∷ []) (2 ∷ []) ≡ 0
 
 computed : Computed
-unfolding counts many one offset stride countRefusal countsRefusal payoffsRefusal tableRefusal playerRefusal profileRefusal finite payoffAt profilePart spaceOf
+unfolding counts many one offset stride countRefusal countsRefusal payoffsRefusal tableRefusal playerRefusal profileRefusal finite payoffAt profilePart
 computed =
     record {
       all-cells = refl;
@@ -85,7 +87,9 @@ computed =
       choice-at-count = refl;
       payoff-told = refl;
       offset-refused = refl;
+      offset-without-payoffs = refl;
       part-told = refl;
       part-refused = refl;
-      space-places = refl;
+      part-place = refl;
+      no-part-place = refl;
     }

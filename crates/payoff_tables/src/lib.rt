@@ -1,0 +1,1 @@
+// Tables of payoffs as document 01 has them: definitions and their laws, no code.
