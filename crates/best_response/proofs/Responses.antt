@@ -27,8 +27,8 @@ use Rattle.marks.proofs.Marks.{marks-whole}
 use Rattle.strategy_row.specs.Row.{rowBests, rowReaching, rowLowest}
 use Rattle.strategy_row.proofs.Row.{row-reaching, row-bests}
 use Rattle.best_response.specs.Row.{rowResponses, rowAnswer, rowWritten, rowUtilities}
-use Rattle.best_response.specs.Answers.{against, opponentsRefusal, responses, responseUtilities, responsesAnswer, responsesWritten}
-use Rattle.best_response.proofs.Opponents.{set-against, opponents-law, against-profile, Accepted}
+use Rattle.responses.specs.Answers.{against, opponentsRefusal, responses, responseUtilities, responsesAnswer, responsesWritten}
+use Rattle.responses.proofs.Opponents.{set-against, opponents-law, Accepted, accepted-profile}
 
 -- what is walked is the row, where its step is s and its lowest best one is b
 module _ (counts : List ℕ) (payoffs : List Float) (p at : ℕ) {s b : ℕ} (e : s ≡ stride counts p)
@@ -71,12 +71,8 @@ module _ {counts : List ℕ} {payoffs : List Float} {p : ℕ} {opponents : List 
   some-choice : 0 < getD counts p 0
   some-choice = u .table .shape .low p (u .mine)
 
-  -- with any choice of p, the opponents' choices are a profile
-  pub accepted-profile : (s : ℕ) → s < getD counts p 0 → Profile counts (against p opponents s)
-  accepted-profile = against-profile counts p opponents (u .many) (u .fit) (u .mine)
-
   profile : Profile counts (against p opponents 0)
-  profile = accepted-profile 0 some-choice
+  profile = accepted-profile u 0 some-choice
 
   -- the row starts at the profile in which p chooses 0, and its cell t is that of p's choice t
   own-place : set (against p opponents 0) p 0 ≡ against p opponents 0
@@ -92,7 +88,7 @@ module _ {counts : List ℕ} {payoffs : List Float} {p : ℕ} {opponents : List 
   pub against-inside : (t : ℕ) → t < getD counts p 0
       → offset counts (against p opponents 0) * length counts + p + t * (stride counts p * length counts) < length payoffs
   against-inside t l =
-      rw (against-cell t l, u .table .full) (cell-below p (accepted-profile t l) (u .mine))
+      rw (against-cell t l, u .table .full) (cell-below p (accepted-profile u t l) (u .mine))
 
   -- the best of the row are the best responses,
   pub row-responses : rowResponses counts payoffs p (offset counts (against p opponents 0)) ≡ responses counts payoffs p opponents

@@ -14,8 +14,8 @@ use Rattle.game.specs.Game.{choice}
 use Rattle.payoff_tables.specs.Table.{offset, offsetFrom}
 use Rattle.payoff_tables.specs.Meaning.{Shape}
 use Rattle.payoff_tables.proofs.Offsets.{offset-more, offset-so-far}
-use Rattle.best_response.specs.Answers.{against}
-use Rattle.best_response.proofs.Opponents.{Fit, against-length, against-own, against-before, against-after}
+use Rattle.responses.specs.Answers.{against}
+use Rattle.responses.proofs.Opponents.{Fit, against-length, against-own, against-before, against-after}
 
 module _ (counts : List ℕ) (p : ℕ) (opponents : List ℕ) where
   -- the next opponent at player q

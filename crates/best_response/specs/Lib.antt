@@ -1,3 +1,2 @@
--- The definitions of this crate, to be read in this order.
+-- The definitions of this crate.
 pub mod Row
-pub mod Answers

@@ -12,7 +12,7 @@ ghost use Rattle.written_lists.specs.Outputs.{over};
 ghost use Rattle.payoff_tables.specs.Table.{offset, stride};
 ghost use Rattle.payoff_tables.specs.Meaning.{Shape, Table};
 ghost use Rattle.best_response.specs.Row.{rowAnswer, rowWritten, rowUtilities};
-ghost use Rattle.best_response.specs.Answers.{against, opponentsRefusal, responseUtilities, responsesAnswer, responsesWritten};
+ghost use Rattle.responses.specs.Answers.{against, opponentsRefusal, responseUtilities, responsesAnswer, responsesWritten};
 
 // The offset of the profile in which the player chooses 0 and the opponents as given, or 9, or 10 in player order.
 fn opponents_offset(counts: &[usize], player: usize, opponents: &[usize]) -> UsizeResult

@@ -18,11 +18,11 @@ use Rattle.payoff_tables.specs.Checks.{countRefusal, countsRefusal, payoffsRefu
 use Rattle.payoff_tables.specs.Answers.{offsetAnswer, payoffAnswer}
 use Rattle.payoff_tables.proofs.Examples.{minus-zero, zero, five, zeros, ties, pair, dilemma, pennies, twice, after}
 use Rattle.marks.specs.Marks.{marked}
-use Rattle.best_response.specs.Answers.{opponentsRefusal, responses, responseUtilities, responsesAnswer, responsesWritten}
-use Rattle.pure_nash.specs.Answers.{listingAnswer, listedChoices, equilibriaAnswer, equilibriaChoices}
+use Rattle.responses.specs.Answers.{opponentsRefusal, responses, responseUtilities, responsesAnswer, responsesWritten}
+use Rattle.equilibria.specs.Answers.{listingAnswer, listedChoices, equilibriaAnswer, equilibriaChoices}
 use Rattle.survivors.specs.declared.Survivors.{Survivors}
 use Rattle.survivors.specs.Survivors.{withoutMark, allMarks, freshOf, markedFrom, foreign}
-use Rattle.survivor_calls.specs.Answers.{strikeAnswer, strikeLeaves}
+use Rattle.strikes.specs.Answers.{strikeAnswer, strikeLeaves}
 use Rattle.bimatrix.specs.Matrices.{bimatrix}
 use Rattle.bimatrix.specs.Keys.{rankAmong, ranks, different, strictlyRanked, key, leastKey}
 use Rattle.catalogue.specs.Catalogue.{orders, rankings, catalogue, place}

@@ -12,7 +12,7 @@ use Rattle.payoff_tables.specs.Checks.{countRefusal, countsRefusal, payoffsRefu
 use Rattle.payoff_tables.proofs.Examples.{pair, dilemma}
 use Rattle.marks.specs.Marks.{marked}
 use Rattle.survivors.specs.Survivors.{withoutMark, allMarks, freshOf, markedFrom, foreign}
-use Rattle.survivor_calls.specs.Answers.{strikeAnswer, strikeLeaves}
+use Rattle.strikes.specs.Answers.{strikeAnswer, strikeLeaves}
 use Rattle.words.specs.Words.{word, kindOf, payloadOf, wordBytes, bytesOf, closed, wordAt, wordsOf}
 use Rattle.words.specs.Faults.{lengthFault, dueFault, closingFault}
 use Rattle.deposit.specs.Deposit.{payoffWords, deposit, playersIn, countsIn, payoffIn, payoffsIn, openingFault, countFault, cellFault, headFault, restFault}

@@ -17,11 +17,11 @@ use Rattle.payoff_tables.specs.Table.{offset, payoffAt, profilePart, tableGame}
 use Rattle.payoff_tables.specs.Checks.{countRefusal, countsRefusal, payoffsRefusal, tableRefusal}
 use Rattle.payoff_tables.proofs.Examples.{ties, pair, dilemma, after}
 use Rattle.marks.specs.Marks.{marked}
-use Rattle.pure_nash.specs.Answers.{listingAnswer, listedChoices}
+use Rattle.equilibria.specs.Answers.{listingAnswer, listedChoices}
 use Rattle.survivors.specs.declared.Survivors.{Survivors}
 use Rattle.survivors.specs.Survivors.{withoutMark, markCount, allMarks, freshOf, noSurvivors, markedFrom, foreign}
-use Rattle.survivor_calls.specs.Answers.{strikeAnswer, strikeLeaves, survivingAnswer, survivingChoices}
-use Rattle.strike_lists.specs.Answers.{chain, strikesAnswer}
+use Rattle.strikes.specs.Answers.{strikeAnswer, strikeLeaves, survivingAnswer, survivingChoices}
+use Rattle.strike_chains.specs.Answers.{chain, strikesAnswer}
 
 -- the answers to a list of calls
 abbrev answers : List ℕ → List Float → List Strategy → List (Told ℕ)

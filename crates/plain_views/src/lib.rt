@@ -20,10 +20,10 @@ ghost use Rattle.written_lists.specs.Outputs.{over};
 ghost use Rattle.payoff_tables.specs.Limits.{maxStrategies};
 ghost use Rattle.payoff_tables.specs.Checks.{tableRefusal};
 ghost use Rattle.table.specs.Space.{spaceUnless};
-ghost use Rattle.pure_nash.specs.Answers.{isEquilibriumAnswer, equilibriaAnswer, equilibriaChoices, equilibriaUtilities};
-ghost use Rattle.strict_dominance.specs.Answers.{strategiesOf, dominatorsOf, dominatedAnswer, dominatedWritten};
+ghost use Rattle.equilibria.specs.Answers.{isEquilibriumAnswer, equilibriaAnswer, equilibriaChoices, equilibriaUtilities};
+ghost use Rattle.dominance.specs.Answers.{strategiesOf, dominatorsOf, dominatedAnswer, dominatedWritten};
 ghost use Rattle.survivors.specs.Survivors.{freshOf, noSurvivors};
-ghost use Rattle.survivor_calls.specs.Answers.{strikeAnswer, strikeLeaves};
+ghost use Rattle.strikes.specs.Answers.{strikeAnswer, strikeLeaves};
 ghost use Rattle.view_fields.specs.Counts.{firstCounts};
 ghost use Rattle.response_list.specs.Responses.{recordsAnswer, recordsWritten};
 

@@ -16,6 +16,7 @@ use Rattle.refusal.specs.Refusal.{numberOf}
 use Rattle.refusal.specs.Told.{values, refused}
 use Rattle.refusal.specs.declared.NormalFormError.{NormalFormError}
 use Rattle.written_lists.specs.Outputs.{roomRefusal}
+use Rattle.written_lists.proofs.Outputs.{flat-map}
 use Rattle.payoff_tables.specs.Table.{profilePart}
 use Rattle.profile_listing.specs.Chosen.{chosen, foundAnswer, foundChoices, foundUtilities}
 use Rattle.profile_listing.proofs.Write.{chosen-many}
@@ -35,11 +36,6 @@ chosen-most {A} (b ∷ bs) (x ∷ xs) = go b (chosen-most bs xs)
     go false h = omega arith
 
 -- ---- what is written
-
-pub flat-map : {A : Type 0} (f : List ℕ → List A) (xs : List (List ℕ)) → flatMap (λ x. x) (map f xs) ≡ flatMap f xs
-unfolding flatMap
-flat-map f [] = refl
-flat-map f (x ∷ xs) = rw (flat-map f xs)
 
 module _ (counts : List ℕ) (payoffs : List Float) (found : List Bool) (a b : ℕ) where
   -- A listing that 13 does not refuse writes all that is found,

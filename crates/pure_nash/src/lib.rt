@@ -16,7 +16,7 @@ ghost use Rattle.payoff_tables.specs.Limits.{maxMarks};
 ghost use Rattle.payoff_tables.specs.Table.{tableGame};
 ghost use Rattle.payoff_tables.specs.Meaning.{Table};
 ghost use Rattle.marks.specs.Marks.{marked};
-ghost use Rattle.pure_nash.specs.Answers.{isEquilibriumAnswer, countAnswer, listingAnswer, listedChoices, listedUtilities, equilibriaAnswer, equilibriaChoices, equilibriaUtilities};
+ghost use Rattle.equilibria.specs.Answers.{isEquilibriumAnswer, countAnswer, listingAnswer, listedChoices, listedUtilities, equilibriaAnswer, equilibriaChoices, equilibriaUtilities};
 
 // Tables of at most this many cells are walked with smaller arrays, which take less time to clear.
 const FEW_CELLS: usize = 2048;

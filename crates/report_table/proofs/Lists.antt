@@ -20,7 +20,7 @@ use Rattle.payoff_tables.specs.Limits.{maxStrategies, maxMarks}
 use Rattle.payoff_tables.specs.Table.{offset, tableGame, profilePart}
 use Rattle.payoff_tables.specs.Meaning.{Table}
 use Rattle.payoff_tables.proofs.Table.{part-within, part-length}
-use Rattle.pure_nash.specs.Answers.{tableEquilibria}
+use Rattle.equilibria.specs.Answers.{tableEquilibria}
 use Rattle.outputs.proofs.Put.{sets-all}
 use Rattle.report_lines.specs.Lines.{entryLine, numbersLine, part, entryLines, numbersLines}
 use Rattle.sweeps.specs.Sweeps.{Strike, strikeNumbers, strikesNumbers, sweeps}

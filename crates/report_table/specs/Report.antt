@@ -7,7 +7,7 @@ use Prim.Native.String.{String, [] as no-characters, _∷_ as _and_}
 use lib.ListN.{length}
 use lib.Ieee.{Float}
 use Rattle.payoff_tables.specs.Table.{profilePart, tableGame}
-use Rattle.pure_nash.specs.Answers.{tableEquilibria}
+use Rattle.equilibria.specs.Answers.{tableEquilibria}
 use Rattle.catalogue.specs.Catalogue.{catalogue}
 use Rattle.catalogue.specs.Answers.{gameNumber}
 use Rattle.text.specs.Text.{decimal, line}

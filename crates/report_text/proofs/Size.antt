@@ -18,7 +18,7 @@ use Rattle.payoff_tables.specs.Limits.{maxStrategies, maxMarks}
 use Rattle.payoff_tables.specs.Table.{profilePart, tableGame}
 use Rattle.payoff_tables.specs.Meaning.{Table}
 use Rattle.payoff_tables.proofs.Table.{part-length}
-use Rattle.pure_nash.specs.Answers.{tableEquilibria}
+use Rattle.equilibria.specs.Answers.{tableEquilibria}
 use Rattle.words.specs.Words.{Bytes, wordsOf}
 use Rattle.deposit.specs.Deposit.{countsIn, payoffsIn}
 use Rattle.bimatrix.specs.Matrices.{bimatrix}

@@ -18,7 +18,7 @@ use Rattle.refusal.specs.Told.{toldUsize, unless}
 use Rattle.written_lists.specs.Outputs.{roomRefusal, over, written}
 use Rattle.payoff_tables.specs.Limits.{maxStrategies}
 use Rattle.payoff_tables.specs.Checks.{tableRefusal, playerRefusal}
-use Rattle.best_response.specs.Answers.{opponentsRefusal, responses, responsesAnswer}
+use Rattle.responses.specs.Answers.{opponentsRefusal, responses, responsesAnswer}
 use Rattle.response_list.specs.Responses.{noRecords, recordsAnswer, recordsWritten}
 use Rattle.response_list.specs.declared.BestResponse.{BestResponse}
 use Rattle.response_list.specs.declared.Found.{Found}

@@ -10,7 +10,7 @@ use Rattle.written_lists.specs.Outputs.{written, over}
 use Rattle.written_lists.proofs.Outputs.{refused-kept}
 use Rattle.utility.specs.Value.{valueOf}
 use Rattle.payoff_tables.specs.Table.{payoffAt}
-use Rattle.best_response.specs.Answers.{against, responses, responsesWritten, responseUtilities}
+use Rattle.responses.specs.Answers.{against, responses, responsesWritten, responseUtilities}
 use Rattle.response_list.specs.Responses.{response, recordsAnswer, recordsWritten}
 use Rattle.response_list.specs.declared.BestResponse.{BestResponse}
 

@@ -25,9 +25,9 @@ use Rattle.payoff_tables.specs.Limits.{maxStrategies}
 use Rattle.payoff_tables.specs.Table.{payoffAt, tableGame}
 use Rattle.payoff_tables.specs.Checks.{tableRefusal, playerRefusal}
 use Rattle.payoff_tables.proofs.Offsets.{cell-below, getD-map, getD-mem}
-use Rattle.best_response.specs.Answers.{against, opponentsRefusal, responses, responseUtilities, responsesAnswer, responsesWritten}
-use Rattle.best_response.proofs.Opponents.{Accepted, accepted-law}
-use Rattle.best_response.proofs.Responses.{accepted-profile, responses-below}
+use Rattle.responses.specs.Answers.{against, opponentsRefusal, responses, responseUtilities, responsesAnswer, responsesWritten}
+use Rattle.responses.proofs.Opponents.{Accepted, accepted-law, accepted-profile}
+use Rattle.best_response.proofs.Responses.{responses-below}
 use Rattle.response_list.specs.declared.BestResponse.{BestResponse}
 use Rattle.response_list.specs.Responses.{response, noRecords, recordsAnswer, recordsWritten}
 

@@ -5,7 +5,7 @@ use lib.ListN.{replicate}
 use lib.Ieee.{Float, ofBits, binary64}
 use Rattle.payoff_tables.specs.Limits.{maxStrategies}
 use Rattle.payoff_tables.specs.Table.{payoffAt}
-use Rattle.best_response.specs.Answers.{against, responsesAnswer, responsesWritten}
+use Rattle.responses.specs.Answers.{against, responsesAnswer, responsesWritten}
 use Rattle.refusal.specs.Told.{Told}
 use Rattle.response_list.specs.declared.BestResponse.{BestResponse}
 

@@ -16,7 +16,7 @@ use Rattle.written_lists.proofs.Outputs.{over-length, over-more}
 use Rattle.payoff_tables.specs.Limits.{maxStrategies}
 use Rattle.payoff_tables.specs.Table.{tableGame}
 use Rattle.payoff_tables.specs.Meaning.{Shape}
-use Rattle.strict_dominance.specs.Answers.{DominatedStrategy, beside, dominatedOf, strategiesOf, dominatorsOf, dominatedStrategies}
+use Rattle.dominance.specs.Answers.{DominatedStrategy, beside, dominatedOf, strategiesOf, dominatorsOf, dominatedStrategies}
 
 -- ---- one strategy after the other
 

@@ -1,5 +1,3 @@
 -- The laws of this crate's definitions.
 pub mod Rows
 pub mod Dominated
-pub mod Meaning
-pub mod Computed

@@ -19,7 +19,7 @@ ghost use Rattle.payoff_tables.specs.Limits.{maxStrategies, maxMarks};
 ghost use Rattle.payoff_tables.specs.Table.{tableGame};
 ghost use Rattle.payoff_tables.specs.Meaning.{Table};
 ghost use Rattle.marks.specs.Marks.{marked};
-ghost use Rattle.strict_dominance.specs.Answers.{strategiesOf, dominatorsOf, dominatedStrategies, deliveredAnswer, dominatedAnswer, writtenOf, dominatedWritten};
+ghost use Rattle.dominance.specs.Answers.{strategiesOf, dominatorsOf, dominatedStrategies, deliveredAnswer, dominatedAnswer, writtenOf, dominatedWritten};
 
 // ---- dominators
 

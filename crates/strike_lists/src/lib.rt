@@ -16,8 +16,8 @@ ghost use Rattle.refusal.specs.Told.{values, refused, toldUsize, status, tells}
 ghost use Rattle.written_lists.specs.Outputs.{over};
 ghost use Rattle.payoff_tables.specs.Meaning.{Table};
 ghost use Rattle.survivors.specs.Survivors.{freshOf, noSurvivors};
-ghost use Rattle.strike_lists.specs.Answers.{callsOf, chain, acceptedOf, dominatorOf, answersSaid, strikesAnswer, strikesLeave, strikesWritten};
-ghost use Rattle.strike_lists.specs.Demand3.{Demand3};
+ghost use Rattle.strike_chains.specs.Answers.{callsOf, chain, acceptedOf, dominatorOf, answersSaid, strikesAnswer, strikesLeave, strikesWritten};
+ghost use Rattle.strike_chains.specs.Demand3.{Demand3};
 
 // What a list of strikes that 13 refuses hands back: 13 beside P 0, counts 0 and no mark.
 fn too_short() -> StrikeResult

@@ -16,16 +16,16 @@ use Rattle.refusal.specs.Refusal.{Refusal}
 use Rattle.refusal.specs.Told.{Told, values, refused, tells, unlessRefused}
 use Rattle.payoff_tables.specs.Checks.{tableRefusal}
 use Rattle.payoff_tables.proofs.Checks.{table-law}
-use Rattle.pure_nash.proofs.Listing.{listing-refused}
+use Rattle.equilibria.proofs.Listing.{listing-refused}
 use Rattle.payoff_tables.specs.Table.{tableGame}
 use Rattle.survivors.specs.declared.Survivors.{Survivors}
 use Rattle.survivors.specs.Survivors.{freshOf, noSurvivors, markCount, marksOf}
-use Rattle.survivor_calls.specs.Answers.{survivorsRefusal, strikeAnswer, strikeLeaves}
-use Rattle.survivor_calls.proofs.Cases.{table-first}
-use Rattle.strike_lists.specs.Answers.{Chain, chainFrom, chain, acceptedOf}
-use Rattle.strike_lists.specs.Demand3.{SameListing}
-use Rattle.strike_lists.proofs.Chain.{accepted-cons}
-use Rattle.strike_lists.proofs.Demand3.{demand-3}
+use Rattle.strikes.specs.Answers.{survivorsRefusal, strikeAnswer, strikeLeaves}
+use Rattle.strikes.proofs.Cases.{table-first}
+use Rattle.strike_chains.specs.Answers.{Chain, chainFrom, chain, acceptedOf}
+use Rattle.strike_chains.specs.Demand3.{SameListing}
+use Rattle.strike_chains.proofs.Chain.{accepted-cons}
+use Rattle.strike_chains.proofs.Demand3.{demand-3}
 
 none-left : {A : Type 0} (i : ℕ) (xs : List A) → length xs ≤ i → drop i xs ≡ []
 none-left i [] h = drop-nil i

@@ -22,10 +22,10 @@ ghost use Rattle.game.specs.Game.{strategy as named};
 ghost use Rattle.refusal.specs.Told.{toldUsize, values, refused, tells, unlessRefused};
 ghost use Rattle.payoff_tables.specs.Checks.{tableRefusal};
 ghost use Rattle.written_lists.specs.Outputs.{over};
-ghost use Rattle.pure_nash.specs.Answers.{equilibriaAnswer, equilibriaChoices, equilibriaUtilities};
+ghost use Rattle.equilibria.specs.Answers.{equilibriaAnswer, equilibriaChoices, equilibriaUtilities};
 ghost use Rattle.survivors.specs.Survivors.{freshOf, noSurvivors, markCount};
-ghost use Rattle.survivor_calls.specs.Answers.{strikeAnswer, strikeLeaves, survivingAnswer, survivingChoices, survivingUtilities};
-ghost use Rattle.strike_lists.specs.Answers.{callsOf, chainFrom, acceptedOf};
+ghost use Rattle.strikes.specs.Answers.{strikeAnswer, strikeLeaves, survivingAnswer, survivingChoices, survivingUtilities};
+ghost use Rattle.strike_chains.specs.Answers.{callsOf, chainFrom, acceptedOf};
 
 // How many strikes were accepted, and the survivors that the last one handed back.
 struct Struck {

@@ -16,7 +16,7 @@ ghost use Rattle.written_lists.specs.Outputs.{over};
 ghost use Rattle.payoff_tables.specs.Table.{tableGame};
 ghost use Rattle.payoff_tables.specs.Meaning.{Table};
 ghost use Rattle.survivors.specs.Survivors.{marksOf};
-ghost use Rattle.survivor_calls.specs.Answers.{toldAnswer, handedBack, strikeAnswer, strikeLeaves, survivingAnswer, survivingChoices, survivingUtilities};
+ghost use Rattle.strikes.specs.Answers.{toldAnswer, handedBack, strikeAnswer, strikeLeaves, survivingAnswer, survivingChoices, survivingUtilities};
 
 // The answer to a strike, or to a list of them, beside the survivors.
 pub struct StrikeResult {

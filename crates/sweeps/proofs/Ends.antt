@@ -17,12 +17,12 @@ use Rattle.payoff_tables.specs.Table.{tableGame}
 use Rattle.payoff_tables.specs.Meaning.{Table}
 use Rattle.survivors.specs.declared.Survivors.{Survivors}
 use Rattle.survivors.specs.Survivors.{marksOf, markCount, freshOf}
-use Rattle.survivor_calls.specs.Answers.{toldAnswer}
-use Rattle.strike_lists.specs.Answers.{chainFrom, chain}
-use Rattle.strike_lists.specs.Demand3.{Demand3}
+use Rattle.strikes.specs.Answers.{toldAnswer}
+use Rattle.strike_chains.specs.Answers.{chainFrom, chain}
+use Rattle.strike_chains.specs.Demand3.{Demand3}
 use Rattle.survivors.proofs.Marks.{count-fresh}
-use Rattle.strike_lists.proofs.Chain.{Good, fresh-good, told, ran}
-use Rattle.strike_lists.proofs.Demand3.{demand-3}
+use Rattle.strike_chains.proofs.Chain.{Good, fresh-good, told, ran}
+use Rattle.strike_chains.proofs.Demand3.{demand-3}
 use Rattle.sweeps.specs.Sweeps.{Strike, Swept, struckBy, sweepThen, sweepCalls, sweep, struckIn, sweepsFrom, sweeps}
 use Rattle.sweeps.specs.Meaning.{Sweeps, ended, again, Done}
 use Rattle.sweeps.proofs.Strikes.{left-append, struck-append, unstruck, strikes-named, strikes-many, struck-counted}

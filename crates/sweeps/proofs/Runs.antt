@@ -14,9 +14,9 @@ use Rattle.refusal.specs.Told.{Told}
 use Rattle.payoff_tables.specs.Meaning.{Table}
 use Rattle.survivors.specs.declared.Survivors.{Survivors}
 use Rattle.survivors.specs.Survivors.{markCount, freshOf}
-use Rattle.survivor_calls.specs.Answers.{handedBack, strikeAnswer, strikeLeaves}
-use Rattle.strike_lists.specs.Answers.{chainFrom}
-use Rattle.strike_lists.proofs.Chain.{Good, fresh-good, ran}
+use Rattle.strikes.specs.Answers.{handedBack, strikeAnswer, strikeLeaves}
+use Rattle.strike_chains.specs.Answers.{chainFrom}
+use Rattle.strike_chains.proofs.Chain.{Good, fresh-good, ran}
 use Rattle.outputs.specs.Put.{past, Puts}
 use Rattle.outputs.proofs.Put.{puts-none, puts-more, puts-same, puts-length, puts-within}
 use Rattle.sweeps.specs.declared.Progress.{Progress}

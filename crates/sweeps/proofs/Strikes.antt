@@ -14,10 +14,10 @@ use Rattle.refusal.proofs.Told.{apart}
 use Rattle.payoff_tables.specs.Meaning.{Table}
 use Rattle.survivors.specs.declared.Survivors.{Survivors}
 use Rattle.survivors.specs.Survivors.{markCount}
-use Rattle.survivor_calls.specs.Answers.{handedBack, strikeAnswer, strikeLeaves}
-use Rattle.strike_lists.specs.Answers.{chainFrom, acceptedOf}
-use Rattle.strike_lists.specs.Meaning.{Struck, done, struck, kept}
-use Rattle.strike_lists.proofs.Chain.{Good, chain-counted, ran}
+use Rattle.strikes.specs.Answers.{handedBack, strikeAnswer, strikeLeaves}
+use Rattle.strike_chains.specs.Answers.{chainFrom, acceptedOf}
+use Rattle.strike_chains.specs.Meaning.{Struck, done, struck, kept}
+use Rattle.strike_chains.proofs.Chain.{Good, chain-counted, ran}
 use Rattle.sweeps.specs.Sweeps.{Strike, strikesOf, struckBy}
 use Rattle.sweeps.specs.Meaning.{Named}
 

@@ -12,8 +12,8 @@ use Rattle.refusal.specs.Told.{Told}
 use Rattle.payoff_tables.specs.Table.{tableGame}
 use Rattle.survivors.specs.declared.Survivors.{Survivors}
 use Rattle.survivors.specs.Survivors.{marksOf, freshOf}
-use Rattle.strike_lists.specs.Answers.{chain}
-use Rattle.strike_lists.specs.Demand3.{Demand3}
+use Rattle.strike_chains.specs.Answers.{chain}
+use Rattle.strike_chains.specs.Demand3.{Demand3}
 use Rattle.outputs.specs.Put.{Puts}
 use Rattle.sweeps.specs.Sweeps.{Strike, strikesOf, sweep, struckIn, strikesNumbers}
 

@@ -9,7 +9,7 @@ use Rattle.game.specs.Finite.{product, empty}
 use Rattle.game.specs.Game.{Strategy}
 use Rattle.payoff_tables.specs.Meaning.{Table}
 use Rattle.survivors.specs.declared.Survivors.{Survivors}
-use Rattle.strike_lists.specs.Answers.{chainFrom, chain}
+use Rattle.strike_chains.specs.Answers.{chainFrom, chain}
 use Rattle.outputs.specs.Put.{Puts}
 use Rattle.sweeps.specs.declared.Progress.{Progress}
 use Rattle.sweeps.specs.Sweeps.{struckBy, strikesNumbers}

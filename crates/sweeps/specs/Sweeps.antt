@@ -10,7 +10,7 @@ use Rattle.refusal.specs.Told.{Told, values, refused}
 use Rattle.payoff_tables.specs.Table.{tableGame}
 use Rattle.survivors.specs.declared.Survivors.{Survivors}
 use Rattle.survivors.specs.Survivors.{freshOf}
-use Rattle.strike_lists.specs.Answers.{Chain, chainFrom}
+use Rattle.strike_chains.specs.Answers.{Chain, chainFrom}
 
 -- an accepted strike: the strategy that it named, and the lowest dominator, which it answered
 pub record Strike : Type 0 where

@@ -16,10 +16,10 @@ ghost use Rattle.game.specs.Game.{strategy as named};
 ghost use Rattle.refusal.specs.Told.{toldBool, toldUnit, toldUsize, unless, unlessRefused};
 ghost use Rattle.written_lists.specs.Outputs.{over, written};
 ghost use Rattle.payoff_tables.specs.Checks.{tableRefusal};
-ghost use Rattle.pure_nash.specs.Answers.{isEquilibriumAnswer, equilibriaAnswer, equilibriaChoices, equilibriaUtilities};
-ghost use Rattle.strict_dominance.specs.Answers.{strategiesOf, dominatorsOf, dominatedAnswer, dominatedWritten};
+ghost use Rattle.equilibria.specs.Answers.{isEquilibriumAnswer, equilibriaAnswer, equilibriaChoices, equilibriaUtilities};
+ghost use Rattle.dominance.specs.Answers.{strategiesOf, dominatorsOf, dominatedAnswer, dominatedWritten};
 ghost use Rattle.survivors.specs.Survivors.{freshOf, noSurvivors};
-ghost use Rattle.survivor_calls.specs.Answers.{strikeAnswer, strikeLeaves};
+ghost use Rattle.strikes.specs.Answers.{strikeAnswer, strikeLeaves};
 ghost use Rattle.view_fields.specs.Counts.{firstCounts};
 ghost use Rattle.response_list.specs.Responses.{noRecords, recordsAnswer, recordsWritten};
 

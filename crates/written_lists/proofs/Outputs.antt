@@ -1,8 +1,8 @@
 -- Writing a list into an output one element after the other, whether two outputs have room, and
 -- that a refused call writes nothing. Assumes nothing.
-use mathlib.Core.Path.{_≡_, sym, ap, ap₂, _∙_}
+use mathlib.Core.Path.{_≡_, refl, sym, ap, ap₂, _∙_}
 use mathlib.Core.Bool.{Bool}
-use mathlib.Core.List.{List, [], _∷_, _++_}
+use mathlib.Core.List.{List, [], _∷_, _++_, map, flatMap}
 use mathlib.Core.Option.{none, some}
 use Prim.Native.Nat.{ℕ, suc, _+_, _≤_, _<_}
 use native.Mathlib.Numerals.{add-one}
@@ -34,6 +34,12 @@ module _ {A : Type 0} where
       let n : length (take i from) ≡ i = length-take-le i from (omega arith) in
       rw (add-one i, take-suc from i d h)
       (ap (λ j. set (over (take i from) old) j (getD from i d)) (sym n) ∙ over-more (take i from) old (getD from i d) (omega arith))
+
+-- The parts of each entry, one after the other.
+pub flat-map : {A B : Type 0} (f : B → List A) (xs : List B) → flatMap (λ x. x) (map f xs) ≡ flatMap f xs
+unfolding flatMap
+flat-map f [] = refl
+flat-map f (x ∷ xs) = rw (flat-map f xs)
 
 -- ---- whether there is room
 

@@ -13,8 +13,8 @@ use Rattle.payoff_tables.specs.Table.{offset}
 use Rattle.payoff_tables.specs.Meaning.{Table}
 use Rattle.payoff_tables.specs.Checks.{tableRefusal}
 use Rattle.payoff_tables.proofs.Checks.{table-law}
-use Rattle.best_response.specs.Answers.{against, opponentsRefusal}
-use Rattle.best_response.proofs.Opponents.{opponents-law, Accepted}
+use Rattle.responses.specs.Answers.{against, opponentsRefusal}
+use Rattle.responses.proofs.Opponents.{opponents-law, Accepted}
 use Rattle.best_response.proofs.Responses.{against-inside, refused-table, refused-player, refused-opponents, refused-whole, row-whole}
 use Rattle.best_response.proofs.best_responses.Statement.{statement}
 use Rattle.best_response.proofs.best_responses.Tie as tie

@@ -5,7 +5,7 @@ use Prim.Native.Nat.{_-_, _<_}
 use native.Mathlib.Omega.{arith}
 use lib.ListN.{length}
 use Rattle.payoff_tables.proofs.Walk.{offset-room}
-use Rattle.best_response.proofs.Opponents.{wrong-number, bad-opponent, opponents-law}
+use Rattle.responses.proofs.Opponents.{wrong-number, bad-opponent, opponents-law}
 use Rattle.best_response.proofs.Walk.{Walked, walked-none, walked-end, walked-own, walked-inside, walked-read, walked-other}
 use Rattle.best_response.proofs.opponents_offset.Statement.{statement}
 use Rattle.best_response.proofs.opponents_offset.Tie as tie

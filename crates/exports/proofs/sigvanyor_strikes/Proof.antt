@@ -6,7 +6,7 @@ use borrow.Author.Needs.{needs}
 use lib.ListN.{length}
 use Rattle.refusal.specs.Told.{Told, toldUsize}
 use Rattle.survivors.specs.declared.Survivors.{Survivors}
-use Rattle.strike_lists.specs.Answers.{callsOf, strikesAnswer}
+use Rattle.strike_chains.specs.Answers.{callsOf, strikesAnswer}
 use Rattle.c_outputs.specs.Status.{markBytes}
 use Rattle.c_outputs.proofs.Outputs.{told-ok, told-err}
 use Rattle.exports.proofs.sigvanyor_strikes.Statement.{statement}

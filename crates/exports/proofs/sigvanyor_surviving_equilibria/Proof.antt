@@ -5,7 +5,7 @@ use borrow.Author.Needs.{needs}
 use lib.ListN.{length}
 use Rattle.written_lists.specs.Outputs.{over}
 use Rattle.survivors.specs.declared.Survivors.{Survivors}
-use Rattle.survivor_calls.specs.Answers.{survivingAnswer, survivingChoices, survivingUtilities}
+use Rattle.strikes.specs.Answers.{survivingAnswer, survivingChoices, survivingUtilities}
 use Rattle.c_outputs.proofs.Outputs.{told-into}
 use Rattle.exports.proofs.sigvanyor_surviving_equilibria.Statement.{statement}
 use Rattle.exports.proofs.sigvanyor_surviving_equilibria.Tie as tie

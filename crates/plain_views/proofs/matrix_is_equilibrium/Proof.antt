@@ -43,7 +43,7 @@ use denote.Exit.{yes}
 use denote.Triple.Clauses.{ensured, lasts}
 use Rattle.payoff_tables.specs.Limits.{maxPlayers}
 use Rattle.refusal.specs.Told.{toldBool}
-use Rattle.pure_nash.specs.Answers.{isEquilibriumAnswer}
+use Rattle.equilibria.specs.Answers.{isEquilibriumAnswer}
 use Rattle.refusal.specs.declared.BoolResult.{BoolResult}
 use Rattle.refusal.proofs.BoolResult as R
 use Rattle.refusal.proofs.BoolResult.Laws as R′

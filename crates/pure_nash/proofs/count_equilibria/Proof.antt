@@ -7,8 +7,8 @@ use Rattle.refusal.specs.Told.{values, unless, toldUsize}
 use Rattle.refusal.proofs.Told.{refused-again}
 use Rattle.payoff_tables.specs.Checks.{tableRefusal}
 use Rattle.payoff_tables.proofs.Table.{TableTold, table-told}
-use Rattle.pure_nash.specs.Answers.{tableEquilibria, countAnswer}
-use Rattle.pure_nash.proofs.Laws.{whole-equilibria}
+use Rattle.equilibria.specs.Answers.{tableEquilibria, countAnswer}
+use Rattle.equilibria.proofs.Laws.{whole-equilibria}
 use borrow.Author.Needs.{needs}
 use Rattle.pure_nash.proofs.count_equilibria.Statement.{statement}
 use Rattle.pure_nash.proofs.count_equilibria.Tie as tie

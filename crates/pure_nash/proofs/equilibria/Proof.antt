@@ -16,9 +16,9 @@ use Rattle.payoff_tables.specs.Table.{tableGame}
 use Rattle.payoff_tables.specs.Checks.{tableRefusal}
 use Rattle.payoff_tables.proofs.Table.{TableTold, table-told}
 use Rattle.marks.specs.Marks.{marked}
-use Rattle.pure_nash.specs.Answers.{listingAnswer, listedChoices, listedUtilities}
-use Rattle.pure_nash.proofs.Listing.{same-answer, same-choices, same-utilities, listing-refused}
-use Rattle.pure_nash.proofs.Laws.{whole-equilibria}
+use Rattle.equilibria.specs.Answers.{listingAnswer, listedChoices, listedUtilities}
+use Rattle.equilibria.proofs.Listing.{same-answer, same-choices, same-utilities, listing-refused}
+use Rattle.equilibria.proofs.Laws.{whole-equilibria}
 use borrow.Author.Needs.{needs}
 use Rattle.pure_nash.proofs.equilibria.Statement.{statement}
 use Rattle.pure_nash.proofs.equilibria.Tie as tie

@@ -26,8 +26,8 @@ use Rattle.payoff_tables.proofs.Offsets.{offset-below, nth-offset}
 use Rattle.marks.specs.Marks.{marked}
 use Rattle.equilibrium_search.proofs.Known.{known-none}
 use Rattle.equilibrium_search.proofs.Rows.{equilibrium-settled}
-use Rattle.pure_nash.specs.Answers.{isEquilibriumAnswer}
-use Rattle.pure_nash.proofs.Laws.{whole-equilibrium}
+use Rattle.equilibria.specs.Answers.{isEquilibriumAnswer}
+use Rattle.equilibria.proofs.Laws.{whole-equilibrium}
 use borrow.Author.Needs.{needs}
 use Rattle.pure_nash.proofs.is_equilibrium.Statement.{statement}
 use Rattle.pure_nash.proofs.is_equilibrium.Tie as tie

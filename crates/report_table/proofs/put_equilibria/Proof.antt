@@ -16,8 +16,8 @@ use Rattle.utility.specs.Order.{finite}
 use Rattle.payoff_tables.specs.Table.{tableGame, profilePart}
 use Rattle.payoff_tables.specs.Checks.{tableRefusal}
 use Rattle.payoff_tables.proofs.Checks.{table-law}
-use Rattle.pure_nash.specs.Answers.{tableEquilibria, listingAnswer, equilibriaChoices, equilibriaUtilities}
-use Rattle.pure_nash.proofs.Listing.{listing-all}
+use Rattle.equilibria.specs.Answers.{tableEquilibria, listingAnswer, equilibriaChoices, equilibriaUtilities}
+use Rattle.equilibria.proofs.Listing.{listing-all}
 use Rattle.outputs.proofs.Put.{puts-more, puts-same}
 use Rattle.text.specs.Text.{decimal, line}
 use Rattle.report_lines.specs.Lines.{entryLines}

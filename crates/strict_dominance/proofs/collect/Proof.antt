@@ -18,7 +18,7 @@ use Rattle.payoff_tables.specs.Limits.{maxStrategies, maxMarks}
 use Rattle.payoff_tables.specs.Table.{tableGame}
 use Rattle.marks.specs.Marks.{marked}
 use Rattle.marks.proofs.Marks.{marks-whole}
-use Rattle.strict_dominance.specs.Answers.{dominatedOf, dominatedStrategies}
+use Rattle.dominance.specs.Answers.{dominatedOf, dominatedStrategies}
 use Rattle.strict_dominance.proofs.Dominated.{dominatedBelow, dominated-more, dominated-few, Collected, first-length, second-length, collected-none, collected-some}
 use Rattle.strict_dominance.proofs.collect.Statement.{statement}
 use Rattle.strict_dominance.proofs.collect.Tie as tie

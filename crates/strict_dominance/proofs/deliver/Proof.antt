@@ -12,7 +12,7 @@ use Rattle.refusal.specs.Told.{values, unless}
 use Rattle.written_lists.specs.Outputs.{roomRefusal, over}
 use Rattle.written_lists.proofs.Outputs.{first-short, second-short, room-fits}
 use Rattle.payoff_tables.specs.Limits.{maxStrategies}
-use Rattle.strict_dominance.specs.Answers.{DominatedStrategy, dominatedStrategies}
+use Rattle.dominance.specs.Answers.{DominatedStrategy, dominatedStrategies}
 use Rattle.strict_dominance.proofs.Dominated.{table-few, Collected, first-length, second-length, first-taken, second-taken}
 use Rattle.strict_dominance.proofs.deliver.Statement.{statement}
 use Rattle.strict_dominance.proofs.deliver.Tie as tie

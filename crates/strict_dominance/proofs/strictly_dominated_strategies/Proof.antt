@@ -13,7 +13,7 @@ use Rattle.refusal.proofs.Told.{told-values, refused-first}
 use Rattle.written_lists.specs.Outputs.{over}
 use Rattle.payoff_tables.specs.Checks.{tableRefusal}
 use Rattle.payoff_tables.proofs.Checks.{table-law, player-law, no-player}
-use Rattle.strict_dominance.specs.Answers.{DominatedStrategy, strategiesOf, dominatorsOf, deliveredAnswer, dominatedAnswer, writtenOf}
+use Rattle.dominance.specs.Answers.{DominatedStrategy, strategiesOf, dominatorsOf, deliveredAnswer, dominatedAnswer, writtenOf}
 use Rattle.strict_dominance.proofs.strictly_dominated_strategies.Statement.{statement}
 use Rattle.strict_dominance.proofs.strictly_dominated_strategies.Tie as tie
 

@@ -15,11 +15,11 @@ use Rattle.refusal.specs.Told.{Told, values, refused, toldUsize, status, tells}
 use Rattle.written_lists.specs.Outputs.{over}
 use Rattle.payoff_tables.specs.Meaning.{Table}
 use Rattle.survivors.specs.declared.Survivors.{Survivors}
-use Rattle.survivor_calls.specs.Answers.{handedBack, strikeAnswer, strikeLeaves}
-use Rattle.strike_lists.specs.Answers.{callsOf, Chain, chain, acceptedOf, dominatorOf}
-use Rattle.strike_lists.proofs.Chain.{Good, told}
-use Rattle.strike_lists.proofs.Demand3.{from-fresh}
-use Rattle.strike_lists.proofs.Written.{calls-length, calls-at, Written, written-none, written-few, first-length, second-length, written-more}
+use Rattle.strikes.specs.Answers.{handedBack, strikeAnswer, strikeLeaves}
+use Rattle.strike_chains.specs.Answers.{callsOf, Chain, chain, acceptedOf, dominatorOf}
+use Rattle.strike_chains.proofs.Chain.{Good, told}
+use Rattle.strike_chains.proofs.Demand3.{from-fresh}
+use Rattle.strike_chains.proofs.Written.{calls-length, calls-at, Written, written-none, written-few, first-length, second-length, written-more}
 use Rattle.strike_lists.proofs.strike_each.Statement.{statement}
 use Rattle.strike_lists.proofs.strike_each.Tie as tie
 

@@ -20,10 +20,10 @@ use Rattle.payoff_tables.specs.Checks.{tableRefusal}
 use Rattle.payoff_tables.proofs.Checks.{table-law}
 use Rattle.survivors.specs.declared.Survivors.{Survivors}
 use Rattle.survivors.specs.Survivors.{freshOf, noSurvivors}
-use Rattle.strike_lists.specs.Answers.{callsOf, dominatorOf, answersSaid, strikesRefusal, strikesAnswer, strikesLeave, strikesWritten}
-use Rattle.strike_lists.specs.Demand3.{Demand3}
-use Rattle.strike_lists.proofs.Demand3.{demand-3-told}
-use Rattle.strike_lists.proofs.Written.{calls-length, strikes-refused, strikes-run}
+use Rattle.strike_chains.specs.Answers.{callsOf, dominatorOf, answersSaid, strikesRefusal, strikesAnswer, strikesLeave, strikesWritten}
+use Rattle.strike_chains.specs.Demand3.{Demand3}
+use Rattle.strike_chains.proofs.Demand3.{demand-3-told}
+use Rattle.strike_chains.proofs.Written.{calls-length, strikes-refused, strikes-run}
 use Rattle.strike_lists.proofs.strikes.Statement.{statement}
 use Rattle.strike_lists.proofs.strikes.Tie as tie
 

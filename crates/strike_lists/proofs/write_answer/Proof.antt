@@ -5,7 +5,7 @@ use Prim.Native.Nat.{ℕ}
 use lib.ListN.{set}
 use Rattle.refusal.specs.Told.{toldUsize, status, tells}
 use Rattle.refusal.specs.declared.UsizeResult.{UsizeResult}
-use Rattle.strike_lists.specs.Answers.{dominatorOf}
+use Rattle.strike_chains.specs.Answers.{dominatorOf}
 use borrow.Author.Needs.{needs}
 use Rattle.strike_lists.proofs.write_answer.Statement.{statement}
 use Rattle.strike_lists.proofs.write_answer.Tie as tie

@@ -14,9 +14,9 @@ use Rattle.payoff_tables.specs.Checks.{tableRefusal}
 use Rattle.written_lists.specs.Outputs.{over}
 use Rattle.survivors.specs.declared.Survivors.{Survivors}
 use Rattle.survivors.specs.Survivors.{freshOf, noSurvivors, markCount}
-use Rattle.survivor_calls.specs.Answers.{survivingAnswer, survivingChoices, survivingUtilities}
-use Rattle.strike_lists.specs.Answers.{callsOf, chainFrom, acceptedOf}
-use Rattle.strike_lists.specs.Demand3.{SameListing}
+use Rattle.strikes.specs.Answers.{survivingAnswer, survivingChoices, survivingUtilities}
+use Rattle.strike_chains.specs.Answers.{callsOf, chainFrom, acceptedOf}
+use Rattle.strike_chains.specs.Demand3.{SameListing}
 use Rattle.strikes_and_listings.proofs.Calls.{same, counted}
 use Rattle.strikes_and_listings.proofs.strike_and_list.Statement.{statement}
 use Rattle.strikes_and_listings.proofs.strike_and_list.Tie as tie

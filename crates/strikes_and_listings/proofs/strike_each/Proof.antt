@@ -10,8 +10,8 @@ use lib.ListN.{length, getD}
 use lib.Ieee.{Float}
 use Rattle.game.specs.Game.{Strategy, strategy}
 use Rattle.refusal.specs.Told.{toldUsize, tells}
-use Rattle.strike_lists.specs.Answers.{callsOf}
-use Rattle.strike_lists.proofs.Written.{calls-length, calls-at}
+use Rattle.strike_chains.specs.Answers.{callsOf}
+use Rattle.strike_chains.proofs.Written.{calls-length, calls-at}
 use Rattle.strikes_and_listings.proofs.Calls.{Far, far-none, far-more, far-all}
 use Rattle.strikes_and_listings.proofs.strike_each.Statement.{statement}
 use Rattle.strikes_and_listings.proofs.strike_each.Tie as tie

@@ -4,8 +4,8 @@ use borrow.Author.Needs.{needs}
 use Rattle.game.specs.Game.{strategy}
 use Rattle.survivors.specs.declared.Survivors.{Survivors}
 use Rattle.survivors.proofs.Marks.{Full}
-use Rattle.survivor_calls.specs.Answers.{strikeAnswer}
-use Rattle.strike_lists.proofs.Chain.{struck-again}
+use Rattle.strikes.specs.Answers.{strikeAnswer}
+use Rattle.strike_chains.proofs.Chain.{struck-again}
 use Rattle.strikes_and_listings.proofs.strike_twice.Statement.{statement}
 use Rattle.strikes_and_listings.proofs.strike_twice.Tie as tie
 

@@ -12,8 +12,8 @@ use Rattle.refusal.proofs.Told.{told-refused}
 use Rattle.payoff_tables.specs.Checks.{tableRefusal}
 use Rattle.payoff_tables.proofs.Table.{TableTold, table-told}
 use Rattle.survivors.specs.declared.Survivors.{Survivors}
-use Rattle.survivor_calls.specs.Answers.{handedBack, survivorsRefusal, strikeLeaves}
-use Rattle.survivor_calls.proofs.Cases.{strike-refused, strike-told, table-first, then-foreign, not-foreign}
+use Rattle.strikes.specs.Answers.{handedBack, survivorsRefusal, strikeLeaves}
+use Rattle.strikes.proofs.Cases.{strike-refused, strike-told, table-first, then-foreign, not-foreign}
 use Rattle.survivor_calls.proofs.strike.Statement.{statement}
 use Rattle.survivor_calls.proofs.strike.Tie as tie
 

@@ -18,8 +18,8 @@ use Rattle.payoff_tables.specs.Limits.{maxPlayers, maxStrategies, maxMarks}
 use Rattle.marks.specs.Marks.{marked}
 use Rattle.marks.proofs.Marks.{mark-at, mark-inside}
 use Rattle.survivors.specs.declared.Survivors.{Survivors}
-use Rattle.survivor_calls.specs.Answers.{toldAnswer, handedBack}
-use Rattle.survivor_calls.proofs.Cases.{told-player, told-struck, told-by}
+use Rattle.strikes.specs.Answers.{toldAnswer, handedBack}
+use Rattle.strikes.proofs.Cases.{told-player, told-struck, told-by}
 use Rattle.survivor_calls.proofs.strike_marked.Statement.{statement}
 use Rattle.survivor_calls.proofs.strike_marked.Tie as tie
 

@@ -15,11 +15,11 @@ use Rattle.refusal.proofs.Told.{told-refused}
 use Rattle.written_lists.specs.Outputs.{over}
 use Rattle.payoff_tables.specs.Checks.{tableRefusal}
 use Rattle.payoff_tables.proofs.Table.{TableTold, table-told}
-use Rattle.pure_nash.specs.Answers.{listingAnswer, listedChoices, listedUtilities}
+use Rattle.equilibria.specs.Answers.{listingAnswer, listedChoices, listedUtilities}
 use Rattle.survivors.specs.declared.Survivors.{Survivors}
 use Rattle.survivors.specs.Survivors.{marksOf}
-use Rattle.survivor_calls.specs.Answers.{survivorsRefusal, survivingAnswer, survivingChoices, survivingUtilities}
-use Rattle.survivor_calls.proofs.Cases.{table-first, then-foreign, not-foreign}
+use Rattle.strikes.specs.Answers.{survivorsRefusal, survivingAnswer, survivingChoices, survivingUtilities}
+use Rattle.strikes.proofs.Cases.{table-first, then-foreign, not-foreign}
 use Rattle.survivor_calls.proofs.surviving_equilibria.Statement.{statement}
 use Rattle.survivor_calls.proofs.surviving_equilibria.Tie as tie
 

@@ -9,8 +9,8 @@ use lib.Ieee.{Float}
 use Rattle.game.specs.Finite.{empty}
 use Rattle.game.specs.Game.{Strategy, strategy}
 use Rattle.refusal.specs.Told.{Told, values, refused, toldUsize}
-use Rattle.survivor_calls.specs.Answers.{handedBack, strikeAnswer}
-use Rattle.strike_lists.proofs.Chain.{told}
+use Rattle.strikes.specs.Answers.{handedBack, strikeAnswer}
+use Rattle.strike_chains.proofs.Chain.{told}
 use Rattle.outputs.specs.Put.{Puts}
 use Rattle.outputs.proofs.Put.{puts-none}
 use Rattle.sweeps.specs.declared.Progress.{Progress}

@@ -4,7 +4,7 @@ use mathlib.Core.Path.{refl, sym}
 use native.Mathlib.Omega.{arith}
 use borrow.Author.Needs.{needs}
 use lib.Seq.{length-take-le}
-use Rattle.strict_dominance.specs.Answers.{dominatedAnswer}
+use Rattle.dominance.specs.Answers.{dominatedAnswer}
 use Rattle.view_fields.proofs.Laws.{firstCounts-take, firstCounts-many}
 use Rattle.view_fields.proofs.dominated_of.Statement.{statement}
 use Rattle.view_fields.proofs.dominated_of.Tie as tie

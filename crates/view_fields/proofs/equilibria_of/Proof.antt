@@ -5,7 +5,7 @@ use mathlib.Core.List.{flatMap}
 use native.Mathlib.Omega.{arith}
 use borrow.Author.Needs.{needs}
 use lib.Seq.{length-take-le}
-use Rattle.pure_nash.specs.Answers.{listingAnswer, listedChoices, listedUtilities}
+use Rattle.equilibria.specs.Answers.{listingAnswer, listedChoices, listedUtilities}
 use Rattle.view_fields.proofs.Laws.{firstCounts-take, firstCounts-many}
 use Rattle.view_fields.proofs.equilibria_of.Statement.{statement}
 use Rattle.view_fields.proofs.equilibria_of.Tie as tie

@@ -4,7 +4,7 @@ use mathlib.Core.Path.{sym}
 use native.Mathlib.Omega.{arith}
 use borrow.Author.Needs.{needs}
 use lib.Seq.{length-take-le}
-use Rattle.pure_nash.specs.Answers.{isEquilibriumAnswer}
+use Rattle.equilibria.specs.Answers.{isEquilibriumAnswer}
 use Rattle.view_fields.proofs.Laws.{firstCounts-take, firstCounts-many}
 use Rattle.view_fields.proofs.is_equilibrium_of.Statement.{statement}
 use Rattle.view_fields.proofs.is_equilibrium_of.Tie as tie

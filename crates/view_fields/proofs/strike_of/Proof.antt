@@ -5,7 +5,7 @@ use native.Mathlib.Omega.{arith}
 use borrow.Author.Needs.{needs}
 use lib.Seq.{length-take-le}
 use Rattle.refusal.specs.declared.NormalFormError.the-variants.{TooManyPlayers}
-use Rattle.survivor_calls.proofs.Cases.{strike-refused, table-first}
+use Rattle.strikes.proofs.Cases.{strike-refused, table-first}
 use Rattle.view_fields.proofs.Laws.{firstCounts-take, firstCounts-many}
 use Rattle.view_fields.proofs.strike_of.Statement.{statement}
 use Rattle.view_fields.proofs.strike_of.Tie as tie

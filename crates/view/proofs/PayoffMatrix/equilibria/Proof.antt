@@ -42,7 +42,7 @@ use denote.Exit.{yes}
 use denote.Triple.Clauses.{Lasts, ensured, lasts}
 use Rattle.refusal.specs.Told.{toldUsize}
 use Rattle.written_lists.specs.Outputs.{over}
-use Rattle.pure_nash.specs.Answers.{equilibriaAnswer, equilibriaChoices, equilibriaUtilities}
+use Rattle.equilibria.specs.Answers.{equilibriaAnswer, equilibriaChoices, equilibriaUtilities}
 use Rattle.refusal.specs.declared.UsizeResult.{UsizeResult}
 use Rattle.refusal.proofs.UsizeResult as R
 use Rattle.refusal.proofs.UsizeResult.Laws as R′

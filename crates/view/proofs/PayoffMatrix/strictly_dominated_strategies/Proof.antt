@@ -42,7 +42,7 @@ use denote.Exit.{yes}
 use denote.Triple.Clauses.{Lasts, ensured, lasts}
 use Rattle.refusal.specs.Told.{toldUsize}
 use Rattle.written_lists.specs.Outputs.{over}
-use Rattle.strict_dominance.specs.Answers.{strategiesOf, dominatorsOf, dominatedAnswer, dominatedWritten}
+use Rattle.dominance.specs.Answers.{strategiesOf, dominatorsOf, dominatedAnswer, dominatedWritten}
 use Rattle.refusal.specs.declared.UsizeResult.{UsizeResult}
 use Rattle.refusal.proofs.UsizeResult as R
 use Rattle.refusal.proofs.UsizeResult.Laws as R′

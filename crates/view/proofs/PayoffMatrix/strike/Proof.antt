@@ -43,7 +43,7 @@ use Rattle.refusal.specs.Told.{toldUsize}
 use Rattle.survivors.specs.declared.Survivors.{Survivors}
 use Rattle.survivors.proofs.Survivors as S
 use Rattle.survivors.proofs.Survivors.Laws as S′
-use Rattle.survivor_calls.specs.Answers.{strikeAnswer, strikeLeaves}
+use Rattle.strikes.specs.Answers.{strikeAnswer, strikeLeaves}
 use Rattle.survivor_calls.specs.declared.StrikeResult.{StrikeResult}
 use Rattle.survivor_calls.proofs.StrikeResult as R
 use Rattle.survivor_calls.proofs.StrikeResult.Laws as R′

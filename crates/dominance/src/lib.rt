@@ -1,0 +1,1 @@
+// The dominated strategies of a player in a table: definitions and their laws, no code.

@@ -1,0 +1,1 @@
+// The equilibria of a table, and of a table among marks: definitions and their laws, no code.
