@@ -16,7 +16,7 @@ ghost use lib.Dec.{eqb};
 ghost use Rattle.refusal.specs.Told.{toldOf, toldUnit, toldUsize, toldBool, status};
 ghost use Rattle.utility.specs.Value.{toldUtility};
 ghost use Rattle.catalogue.specs.Answers.{toldNumber};
-ghost use Rattle.c_outputs.specs.Status.{output, beside, someByte, orZero, survivorsOf, byteOf, markBytes};
+ghost use Rattle.c_answers.specs.Status.{output, beside, someByte, orZero, survivorsOf, byteOf, markBytes};
 
 // ---- an answer into its outputs
 

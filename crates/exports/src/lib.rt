@@ -34,7 +34,7 @@ ghost use Rattle.response_list.specs.Responses.{recordsAnswer, recordsWritten};
 ghost use Rattle.deposit.specs.Answers.{readAnswer, readCounts, readPayoffs, writeAnswer, writeBytes};
 ghost use Rattle.catalogue.specs.Answers.{numberAnswer};
 ghost use Rattle.candidates.specs.Checks.{incentives, verdictOf, minimax};
-ghost use Rattle.c_outputs.specs.Status.{output, beside, someByte, orZero, partStart, partLength, byteOf, survivorsOf, markBytes};
+ghost use Rattle.c_answers.specs.Status.{output, beside, someByte, orZero, partStart, partLength, byteOf, survivorsOf, markBytes};
 ghost use Rattle.exports.specs.Interface.{interface};
 
 // The number of this interface, SIGVANYOR_INTERFACE of the header. It goes up with each change of a

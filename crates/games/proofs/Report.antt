@@ -19,12 +19,12 @@ use Rattle.deposit.specs.Deposit.{payoffWords, deposit, playersIn, countsIn, pa
 use Rattle.bimatrix.specs.Keys.{rankAmong, different, strictlyRanked, key, leastKey}
 use Rattle.catalogue.specs.Catalogue.{orders, rankings, catalogue, place}
 use Rattle.catalogue.specs.Answers.{twoByTwo, gameNumber}
-use Rattle.text.specs.Text.{decimal, hexadecimal, spaced, joined, line}
+use Rattle.digits_and_lines.specs.Text.{decimal, hexadecimal, spaced, joined, line}
 use Rattle.report_input.specs.Input.{inputRefusal, inputTable}
-use Rattle.report_lines.specs.Lines.{bitsWord, entryLine, numbersLine}
-use Rattle.sweeps.specs.Sweeps.{struckIn, sweepsFrom, sweeps}
-use Rattle.report_table.specs.Report.{codes, numberLine, catalogueLine, equilibriaText, struckText, tableReport}
-use Rattle.report_text.specs.Report.{report}
+use Rattle.report_layout.specs.Lines.{bitsWord, entryLine, numbersLine}
+use Rattle.strike_sweeps.specs.Sweeps.{struckIn, sweepsFrom, sweeps}
+use Rattle.report_layout.specs.Table.{codes, numberLine, catalogueLine, equilibriaText, struckText, tableReport}
+use Rattle.report_layout.specs.Report.{report}
 
 dilemma-report :
     report (deposit pair dilemma)

@@ -9,8 +9,8 @@ use lib.ListN.{length, getD, take, drop, length-drop}
 use lib.Seq.{length-take-le, getD-take, getD-drop}
 use Rattle.game.specs.Finite.{below}
 use Rattle.game.proofs.Finite.{below-last, flatMap-last}
-use Rattle.text.specs.Text.{decimal, spaced, joined}
-use Rattle.text.proofs.Lines.{joined-append}
+use Rattle.digits_and_lines.specs.Text.{decimal, spaced, joined}
+use Rattle.digits_and_lines.proofs.Lines.{joined-append}
 
 -- one line more
 pub flat-next : {A : Type 0} (f : ℕ → List A) (i : ℕ) → flatMap f (below i) ++ f i ≡ flatMap f (below (i + 1))

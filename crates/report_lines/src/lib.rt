@@ -9,8 +9,8 @@ ghost use lib.Ieee.{nan};
 ghost use Rattle.utility.specs.Order.{finite};
 ghost use Rattle.payoff_tables.specs.Meaning.{Finites};
 ghost use Rattle.outputs.specs.Put.{past};
-ghost use Rattle.text.specs.Text.{spaced};
-ghost use Rattle.report_lines.specs.Lines.{bitsWord, entryLine, numbersLine, entryLines, numbersLines};
+ghost use Rattle.digits_and_lines.specs.Text.{spaced};
+ghost use Rattle.report_layout.specs.Lines.{bitsWord, entryLine, numbersLine, entryLines, numbersLines};
 
 // Puts each payoff's bits in hexadecimal digits, after a space.
 fn put_bits(out: &mut [u8], at: usize, utilities: &[f64]) -> usize

@@ -14,9 +14,9 @@ ghost use Rattle.payoff_tables.specs.Meaning.{Table};
 ghost use Rattle.catalogue.specs.Catalogue.{catalogue};
 ghost use Rattle.catalogue.specs.Answers.{gameNumber};
 ghost use Rattle.outputs.specs.Put.{past};
-ghost use Rattle.text.specs.Text.{decimal, line};
+ghost use Rattle.digits_and_lines.specs.Text.{decimal, line};
 ghost use Rattle.report_input.specs.Input.{maxReportCells};
-ghost use Rattle.report_table.specs.Report.{catalogueLine, equilibriaText, struckText, tableReport};
+ghost use Rattle.report_layout.specs.Table.{catalogueLine, equilibriaText, struckText, tableReport};
 
 // How many numbers a strike has: player, strategy, dominator.
 const STRIKE_NUMBERS: usize = 3;

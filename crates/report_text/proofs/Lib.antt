@@ -1,3 +1,2 @@
 -- The proofs of this crate that are not of one function.
 pub mod Read
-pub mod Size

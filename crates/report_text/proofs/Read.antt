@@ -22,8 +22,8 @@ use Rattle.outputs.proofs.Put.{past-all, sets-all}
 use Rattle.outputs.specs.Put.{Puts}
 use Rattle.report_input.specs.Input.{maxReportCells, inputRefusal, inputTable}
 use Rattle.report_input.proofs.Input.{input-accepted}
-use Rattle.report_table.specs.Report.{tableReport}
-use Rattle.report_text.specs.Report.{toldReport, report}
+use Rattle.report_layout.specs.Table.{tableReport}
+use Rattle.report_layout.specs.Report.{toldReport, report}
 
 -- ---- a refused file
 

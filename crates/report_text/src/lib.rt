@@ -15,8 +15,8 @@ ghost use Rattle.payoff_tables.specs.Table.{cells};
 ghost use Rattle.payoff_tables.specs.Meaning.{Table};
 ghost use Rattle.outputs.specs.Put.{past};
 ghost use Rattle.report_input.specs.Input.{maxReportCells};
-ghost use Rattle.report_table.specs.Report.{tableReport};
-ghost use Rattle.report_text.specs.Report.{report};
+ghost use Rattle.report_layout.specs.Table.{tableReport};
+ghost use Rattle.report_layout.specs.Report.{report};
 
 // The bytes of the other lines than those of the lists, at their longest: players, counts,
 // equilibria, struck, catalogue.

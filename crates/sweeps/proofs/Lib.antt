@@ -1,4 +1,2 @@
 -- The proofs of this crate that are not of one function.
-pub mod Strikes
-pub mod Ends
 pub mod Runs

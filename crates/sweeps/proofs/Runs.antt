@@ -20,11 +20,11 @@ use Rattle.strike_chains.proofs.Chain.{Good, fresh-good, ran}
 use Rattle.outputs.specs.Put.{past, Puts}
 use Rattle.outputs.proofs.Put.{puts-none, puts-more, puts-same, puts-length, puts-within}
 use Rattle.sweeps.specs.declared.Progress.{Progress}
-use Rattle.sweeps.specs.Sweeps.{Strike, struckBy, sweepCalls, struckIn, sweeps, strikeNumbers, strikesNumbers}
-use Rattle.sweeps.specs.Meaning.{Sweeps, ended}
+use Rattle.strike_sweeps.specs.Sweeps.{Strike, struckBy, sweepCalls, struckIn, sweeps, strikeNumbers, strikesNumbers}
+use Rattle.strike_sweeps.specs.Meaning.{Sweeps, ended}
 use Rattle.sweeps.specs.Progress.{Reached, Ready, Runs}
-use Rattle.sweeps.proofs.Strikes.{strikeOf, left-append, struck-append, unstruck}
-use Rattle.sweeps.proofs.Ends.{sweeps-once, sweeps-more, sweep-counted, sweeps-done}
+use Rattle.strike_sweeps.proofs.Strikes.{strikeOf, left-append, struck-append, unstruck}
+use Rattle.strike_sweeps.proofs.Ends.{sweeps-once, sweeps-more, sweep-counted, sweeps-done}
 
 -- ---- strikes one after the other
 

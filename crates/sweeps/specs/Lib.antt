@@ -1,4 +1,2 @@
--- The definitions of this crate: the sweeps, what they mean, and where the code has come to.
-pub mod Sweeps
-pub mod Meaning
+-- The definitions of this crate.
 pub mod Progress

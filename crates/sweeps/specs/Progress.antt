@@ -12,7 +12,7 @@ use Rattle.survivors.specs.declared.Survivors.{Survivors}
 use Rattle.strike_chains.specs.Answers.{chainFrom, chain}
 use Rattle.outputs.specs.Put.{Puts}
 use Rattle.sweeps.specs.declared.Progress.{Progress}
-use Rattle.sweeps.specs.Sweeps.{struckBy, strikesNumbers}
+use Rattle.strike_sweeps.specs.Sweeps.{struckBy, strikesNumbers}
 
 module _ (counts : List ℕ) (payoffs : List Float) where
   -- survivors that some list of calls leaves

@@ -10,8 +10,8 @@ ghost use Rattle.game.specs.Finite.{below};
 ghost use Rattle.game.specs.Game.{strategy as named};
 ghost use Rattle.payoff_tables.specs.Meaning.{Table};
 ghost use Rattle.outputs.specs.Put.{past, Puts};
-ghost use Rattle.sweeps.specs.Sweeps.{sweepCalls, sweeps, strikesNumbers};
-ghost use Rattle.sweeps.specs.Meaning.{DoneInto};
+ghost use Rattle.strike_sweeps.specs.Sweeps.{sweepCalls, sweeps, strikesNumbers};
+ghost use Rattle.strike_sweeps.specs.Meaning.{DoneInto};
 ghost use Rattle.sweeps.specs.Progress.{Ready, Runs};
 
 // The place after the strikes that were written, beside the survivors.

@@ -4,7 +4,7 @@ ghost use mathlib.Core.Path.{_≡_};
 ghost use mathlib.Core.List.{_∷_, map};
 ghost use lib.Seq.{sets};
 ghost use Rattle.outputs.specs.Put.{past};
-ghost use Rattle.text.specs.Text.{decimal, hexadecimal, spaced, joined, line};
+ghost use Rattle.digits_and_lines.specs.Text.{decimal, hexadecimal, spaced, joined, line};
 
 // Puts the bytes as they are.
 pub fn put(out: &mut [u8], at: usize, bytes: &[u8]) -> usize

@@ -6,7 +6,7 @@ use native.Mathlib.Omega.{arith}
 use borrow.Author.Needs.{needs}
 use lib.Dec.{eqb}
 use Rattle.payoff_tables.specs.Limits.{maxMarks}
-use Rattle.c_outputs.proofs.Outputs.{Made, made-more, made-all}
+use Rattle.c_answers.proofs.Outputs.{Made, made-more, made-all}
 use Rattle.c_outputs.proofs.marks_of.Statement.{statement}
 use Rattle.c_outputs.proofs.marks_of.Tie as tie
 

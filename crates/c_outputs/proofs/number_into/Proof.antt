@@ -4,7 +4,7 @@ use borrow.Author.Needs.{needs}
 use Rattle.refusal.specs.Told.{values, optionUsize}
 use Rattle.refusal.specs.declared.UsizeOption.{UsizeOption}
 use Rattle.catalogue.specs.Answers.{toldNumber}
-use Rattle.c_outputs.proofs.Outputs.{number-into}
+use Rattle.c_answers.proofs.Outputs.{number-into}
 use Rattle.c_outputs.proofs.number_into.Statement.{statement}
 use Rattle.c_outputs.proofs.number_into.Tie as tie
 

@@ -3,7 +3,7 @@ use mathlib.Core.Path.{sym, ap, _∙_}
 use borrow.Author.Needs.{needs}
 use Rattle.refusal.specs.Told.{toldUnit, status}
 use Rattle.refusal.specs.declared.UnitResult.{UnitResult}
-use Rattle.c_outputs.specs.Status.{beside}
+use Rattle.c_answers.specs.Status.{beside}
 use Rattle.c_outputs.proofs.space_into.Statement.{statement}
 use Rattle.c_outputs.proofs.space_into.Tie as tie
 

@@ -4,7 +4,7 @@ use mathlib.Core.Bool.{Bool}
 use mathlib.Core.List.{List}
 use borrow.Author.Needs.{needs}
 use Rattle.survivors.specs.declared.Survivors.{Survivors}
-use Rattle.c_outputs.specs.Status.{survivorsOf}
+use Rattle.c_answers.specs.Status.{survivorsOf}
 use Rattle.c_outputs.proofs.survivors_of.Statement.{statement}
 use Rattle.c_outputs.proofs.survivors_of.Tie as tie
 

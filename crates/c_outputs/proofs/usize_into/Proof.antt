@@ -3,7 +3,7 @@ use mathlib.Core.Path.{sym, ap, _∙_}
 use borrow.Author.Needs.{needs}
 use Rattle.refusal.specs.Told.{toldUsize, status}
 use Rattle.refusal.specs.declared.UsizeResult.{UsizeResult}
-use Rattle.c_outputs.specs.Status.{output}
+use Rattle.c_answers.specs.Status.{output}
 use Rattle.c_outputs.proofs.usize_into.Statement.{statement}
 use Rattle.c_outputs.proofs.usize_into.Tie as tie
 

@@ -4,7 +4,7 @@ use borrow.Author.Needs.{needs}
 use Rattle.utility.specs.Value.{toldUtility}
 use Rattle.utility.specs.declared.UtilityResult.{UtilityResult}
 use Rattle.refusal.specs.Told.{status}
-use Rattle.c_outputs.specs.Status.{output}
+use Rattle.c_answers.specs.Status.{output}
 use Rattle.c_outputs.proofs.utility_into.Statement.{statement}
 use Rattle.c_outputs.proofs.utility_into.Tie as tie
 

@@ -45,7 +45,7 @@ use Rattle.refusal.specs.declared.UsizeResult.{UsizeResult}
 use Rattle.refusal.proofs.UsizeResult as U
 use Rattle.refusal.proofs.UsizeResult.Laws as U′
 use Rattle.written_lists.specs.Outputs.{over}
-use Rattle.c_outputs.specs.Status.{output}
+use Rattle.c_answers.specs.Status.{output}
 use Rattle.c_outputs.proofs.usize_into as into
 use Rattle.c_outputs.proofs.usize_into.Symbol as into-def
 use Rattle.c_outputs.proofs.usize_into.Symbol.{name as #c-outputs·usize-into}

@@ -1,6 +1,6 @@
 -- `exports::sigvanyor_best_responses` meets its contract, by what the call told and wrote. Assumes nothing.
 use borrow.Author.Needs.{needs}
-use Rattle.c_outputs.proofs.Outputs.{told-into}
+use Rattle.c_answers.proofs.Outputs.{told-into}
 use Rattle.exports.proofs.sigvanyor_best_responses.Statement.{statement}
 use Rattle.exports.proofs.sigvanyor_best_responses.Tie as tie
 

@@ -1,6 +1,6 @@
 -- `exports::sigvanyor_count_equilibria` meets its contract, by what the call told. Assumes nothing.
 use borrow.Author.Needs.{needs}
-use Rattle.c_outputs.proofs.Outputs.{told-into}
+use Rattle.c_answers.proofs.Outputs.{told-into}
 use Rattle.exports.proofs.sigvanyor_count_equilibria.Statement.{statement}
 use Rattle.exports.proofs.sigvanyor_count_equilibria.Tie as tie
 

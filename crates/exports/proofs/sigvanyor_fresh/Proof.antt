@@ -8,8 +8,8 @@ use Rattle.refusal.proofs.Told.{told-values, refused-again}
 use Rattle.payoff_tables.specs.Checks.{tableRefusal}
 use Rattle.survivors.specs.declared.Survivors.{Survivors}
 use Rattle.survivors.specs.Survivors.{freshOf, noSurvivors}
-use Rattle.c_outputs.specs.Status.{output, markBytes}
-use Rattle.c_outputs.proofs.Outputs.{told-err}
+use Rattle.c_answers.specs.Status.{output, markBytes}
+use Rattle.c_answers.proofs.Outputs.{told-err}
 use Rattle.exports.proofs.sigvanyor_fresh.Statement.{statement}
 use Rattle.exports.proofs.sigvanyor_fresh.Tie as tie
 

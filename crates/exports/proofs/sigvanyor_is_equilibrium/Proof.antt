@@ -1,6 +1,6 @@
 -- `exports::sigvanyor_is_equilibrium` meets its contract, by what the call told. Assumes nothing.
 use borrow.Author.Needs.{needs}
-use Rattle.c_outputs.proofs.Outputs.{truth-into}
+use Rattle.c_answers.proofs.Outputs.{truth-into}
 use Rattle.exports.proofs.sigvanyor_is_equilibrium.Statement.{statement}
 use Rattle.exports.proofs.sigvanyor_is_equilibrium.Tie as tie
 

@@ -1,6 +1,6 @@
 -- `exports::sigvanyor_number` meets its contract, by what the call told. Assumes nothing.
 use borrow.Author.Needs.{needs}
-use Rattle.c_outputs.proofs.Outputs.{number-into}
+use Rattle.c_answers.proofs.Outputs.{number-into}
 use Rattle.exports.proofs.sigvanyor_number.Statement.{statement}
 use Rattle.exports.proofs.sigvanyor_number.Tie as tie
 

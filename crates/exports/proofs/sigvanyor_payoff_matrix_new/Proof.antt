@@ -2,7 +2,7 @@
 use mathlib.Core.Path.{_∙_}
 use borrow.Author.Needs.{needs}
 use Rattle.payoff_tables.specs.Checks.{tableRefusal}
-use Rattle.c_outputs.proofs.Outputs.{space-output}
+use Rattle.c_answers.proofs.Outputs.{space-output}
 use Rattle.exports.proofs.sigvanyor_payoff_matrix_new.Statement.{statement}
 use Rattle.exports.proofs.sigvanyor_payoff_matrix_new.Tie as tie
 

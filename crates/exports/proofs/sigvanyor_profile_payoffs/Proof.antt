@@ -12,7 +12,7 @@ use Rattle.refusal.proofs.Told.{told-refused}
 use Rattle.payoff_tables.specs.Table.{offset}
 use Rattle.payoff_tables.specs.Checks.{tableRefusal, profileRefusal}
 use Rattle.payoff_tables.proofs.Table.{PartTold, part-told}
-use Rattle.c_outputs.specs.Status.{output}
+use Rattle.c_answers.specs.Status.{output}
 use Rattle.exports.proofs.sigvanyor_profile_payoffs.Statement.{statement}
 use Rattle.exports.proofs.sigvanyor_profile_payoffs.Tie as tie
 

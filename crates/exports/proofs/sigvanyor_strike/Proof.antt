@@ -7,8 +7,8 @@ use Rattle.game.specs.Game.{Strategy, strategy}
 use Rattle.refusal.specs.Told.{Told, toldUsize}
 use Rattle.survivors.specs.declared.Survivors.{Survivors}
 use Rattle.strikes.specs.Answers.{strikeAnswer, strikeLeaves}
-use Rattle.c_outputs.specs.Status.{survivorsOf, markBytes}
-use Rattle.c_outputs.proofs.Outputs.{told-ok, told-err}
+use Rattle.c_answers.specs.Status.{survivorsOf, markBytes}
+use Rattle.c_answers.proofs.Outputs.{told-ok, told-err}
 use Rattle.exports.proofs.sigvanyor_strike.Statement.{statement}
 use Rattle.exports.proofs.sigvanyor_strike.Tie as tie
 

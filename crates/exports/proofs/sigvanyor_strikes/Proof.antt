@@ -7,8 +7,8 @@ use lib.ListN.{length}
 use Rattle.refusal.specs.Told.{Told, toldUsize}
 use Rattle.survivors.specs.declared.Survivors.{Survivors}
 use Rattle.strike_chains.specs.Answers.{callsOf, strikesAnswer}
-use Rattle.c_outputs.specs.Status.{markBytes}
-use Rattle.c_outputs.proofs.Outputs.{told-ok, told-err}
+use Rattle.c_answers.specs.Status.{markBytes}
+use Rattle.c_answers.proofs.Outputs.{told-ok, told-err}
 use Rattle.exports.proofs.sigvanyor_strikes.Statement.{statement}
 use Rattle.exports.proofs.sigvanyor_strikes.Tie as tie
 

@@ -6,7 +6,7 @@ use lib.ListN.{length}
 use Rattle.written_lists.specs.Outputs.{over}
 use Rattle.survivors.specs.declared.Survivors.{Survivors}
 use Rattle.strikes.specs.Answers.{survivingAnswer, survivingChoices, survivingUtilities}
-use Rattle.c_outputs.proofs.Outputs.{told-into}
+use Rattle.c_answers.proofs.Outputs.{told-into}
 use Rattle.exports.proofs.sigvanyor_surviving_equilibria.Statement.{statement}
 use Rattle.exports.proofs.sigvanyor_surviving_equilibria.Tie as tie
 

@@ -1,6 +1,6 @@
 -- `exports::sigvanyor_utility_new` meets its contract, by what the call told. Assumes nothing.
 use borrow.Author.Needs.{needs}
-use Rattle.c_outputs.proofs.Outputs.{told-into}
+use Rattle.c_answers.proofs.Outputs.{told-into}
 use Rattle.exports.proofs.sigvanyor_utility_new.Statement.{statement}
 use Rattle.exports.proofs.sigvanyor_utility_new.Tie as tie
 

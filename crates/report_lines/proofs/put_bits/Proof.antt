@@ -9,9 +9,9 @@ use lib.Ieee.{Float, nan}
 use Rattle.utility.proofs.Laws.{finite-no-nan}
 use Rattle.outputs.specs.Put.{Puts}
 use Rattle.outputs.proofs.Put.{puts-none, puts-more, puts-same, puts-length}
-use Rattle.text.specs.Text.{space, spaced}
-use Rattle.text.proofs.Lines.{spaced-next}
-use Rattle.report_lines.specs.Lines.{bitsWord}
+use Rattle.digits_and_lines.specs.Text.{space, spaced}
+use Rattle.digits_and_lines.proofs.Lines.{spaced-next}
+use Rattle.report_layout.specs.Lines.{bitsWord}
 use Rattle.report_lines.proofs.put_bits.Statement.{statement}
 use Rattle.report_lines.proofs.put_bits.Tie as tie
 

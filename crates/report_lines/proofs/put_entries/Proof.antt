@@ -10,7 +10,7 @@ use Rattle.game.specs.Finite.{below}
 use Rattle.utility.specs.Order.{finite}
 use Rattle.outputs.specs.Put.{Puts}
 use Rattle.outputs.proofs.Put.{puts-none, puts-more, puts-same, puts-length}
-use Rattle.report_lines.specs.Lines.{entryLine, part, entryLines}
+use Rattle.report_layout.specs.Lines.{entryLine, part, entryLines}
 use Rattle.report_lines.proofs.Lines.{flat-next, entry-within, part-length, part-at}
 use Rattle.report_lines.proofs.put_entries.Statement.{statement}
 use Rattle.report_lines.proofs.put_entries.Tie as tie

@@ -5,8 +5,8 @@ use Prim.Native.Nat.{ℕ}
 use borrow.Author.Needs.{needs}
 use Rattle.outputs.specs.Put.{Puts}
 use Rattle.outputs.proofs.Put.{puts-more, puts-same, puts-length}
-use Rattle.text.specs.Text.{decimal, lineEnd, spaced, joined, line}
-use Rattle.report_lines.specs.Lines.{bitsWord, entryLine}
+use Rattle.digits_and_lines.specs.Text.{decimal, lineEnd, spaced, joined, line}
+use Rattle.report_layout.specs.Lines.{bitsWord, entryLine}
 use Rattle.report_lines.proofs.Lines.{joined-choices}
 use Rattle.report_lines.proofs.put_entry.Statement.{statement}
 use Rattle.report_lines.proofs.put_entry.Tie as tie

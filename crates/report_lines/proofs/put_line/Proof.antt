@@ -3,8 +3,8 @@ use mathlib.Core.List.{[], _∷_, map}
 use borrow.Author.Needs.{needs}
 use Rattle.outputs.specs.Put.{Puts}
 use Rattle.outputs.proofs.Put.{puts-more, puts-length}
-use Rattle.text.specs.Text.{decimal, lineEnd, joined, line}
-use Rattle.report_lines.specs.Lines.{numbersLine}
+use Rattle.digits_and_lines.specs.Text.{decimal, lineEnd, joined, line}
+use Rattle.report_layout.specs.Lines.{numbersLine}
 use Rattle.report_lines.proofs.put_line.Statement.{statement}
 use Rattle.report_lines.proofs.put_line.Tie as tie
 

@@ -7,7 +7,7 @@ use lib.ListN.{length, take, drop}
 use Rattle.game.specs.Finite.{below}
 use Rattle.outputs.specs.Put.{Puts}
 use Rattle.outputs.proofs.Put.{puts-none, puts-more, puts-same, puts-length}
-use Rattle.report_lines.specs.Lines.{numbersLine, part, numbersLines}
+use Rattle.report_layout.specs.Lines.{numbersLine, part, numbersLines}
 use Rattle.report_lines.proofs.Lines.{flat-next, entry-within}
 use Rattle.report_lines.proofs.put_lines.Statement.{statement}
 use Rattle.report_lines.proofs.put_lines.Tie as tie

@@ -12,8 +12,8 @@ use Rattle.payoff_tables.proofs.Checks.{table-law}
 use Rattle.catalogue.specs.Catalogue.{catalogue}
 use Rattle.catalogue.specs.Answers.{gameNumber, numberAnswer, toldNumber}
 use Rattle.outputs.proofs.Put.{puts-same}
-use Rattle.text.specs.Text.{spaced, joined, line}
-use Rattle.report_table.specs.Report.{numberLine, catalogueLine}
+use Rattle.digits_and_lines.specs.Text.{spaced, joined, line}
+use Rattle.report_layout.specs.Table.{numberLine, catalogueLine}
 use Rattle.report_table.proofs.put_catalogue.Statement.{statement}
 use Rattle.report_table.proofs.put_catalogue.Tie as tie
 

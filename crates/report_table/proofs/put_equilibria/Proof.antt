@@ -19,10 +19,10 @@ use Rattle.payoff_tables.proofs.Checks.{table-law}
 use Rattle.equilibria.specs.Answers.{tableEquilibria, listingAnswer, equilibriaChoices, equilibriaUtilities}
 use Rattle.equilibria.proofs.Listing.{listing-all}
 use Rattle.outputs.proofs.Put.{puts-more, puts-same}
-use Rattle.text.specs.Text.{decimal, line}
-use Rattle.report_lines.specs.Lines.{entryLines}
-use Rattle.report_table.specs.Report.{codes, numberLine, equilibriumLine, equilibriaText}
-use Rattle.report_table.proofs.Lists.{begins-with, equilibria-fit, choices-length, utilities-length, utilities-finite, equilibria-lines}
+use Rattle.digits_and_lines.specs.Text.{decimal, line}
+use Rattle.report_layout.specs.Lines.{entryLines}
+use Rattle.report_layout.specs.Table.{codes, numberLine, equilibriumLine, equilibriaText}
+use Rattle.report_layout.proofs.Lists.{begins-with, equilibria-fit, choices-length, utilities-length, utilities-finite, equilibria-lines}
 use Rattle.report_table.proofs.put_equilibria.Statement.{statement}
 use Rattle.report_table.proofs.put_equilibria.Tie as tie
 

@@ -9,11 +9,11 @@ use lib.ListN.{length, replicate}
 use Rattle.game.specs.Game.{strategy}
 use Rattle.outputs.proofs.Put.{past-all, puts-more, puts-same}
 use Rattle.outputs.specs.Put.{Puts}
-use Rattle.text.specs.Text.{decimal, line}
-use Rattle.report_lines.specs.Lines.{numbersLine, numbersLines}
-use Rattle.sweeps.specs.Sweeps.{Strike, strikeNumbers, strikesNumbers, sweeps}
-use Rattle.report_table.specs.Report.{codes, numberLine, struckText}
-use Rattle.report_table.proofs.Lists.{strikes-length, strikes-lines, strikes-few}
+use Rattle.digits_and_lines.specs.Text.{decimal, line}
+use Rattle.report_layout.specs.Lines.{numbersLine, numbersLines}
+use Rattle.strike_sweeps.specs.Sweeps.{Strike, strikeNumbers, strikesNumbers, sweeps}
+use Rattle.report_layout.specs.Table.{codes, numberLine, struckText}
+use Rattle.report_layout.proofs.Lists.{strikes-length, strikes-lines, strikes-few}
 use Rattle.report_table.proofs.put_struck.Statement.{statement}
 use Rattle.report_table.proofs.put_struck.Tie as tie
 

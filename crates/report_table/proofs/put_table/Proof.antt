@@ -9,8 +9,8 @@ use Rattle.catalogue.specs.Catalogue.{catalogue}
 use Rattle.catalogue.specs.Answers.{gameNumber}
 use Rattle.outputs.specs.Put.{Puts}
 use Rattle.outputs.proofs.Put.{puts-more, puts-length}
-use Rattle.text.specs.Text.{decimal, line}
-use Rattle.report_table.specs.Report.{codes, numberLine, catalogueLine, equilibriaText, struckText, tableReport}
+use Rattle.digits_and_lines.specs.Text.{decimal, line}
+use Rattle.report_layout.specs.Table.{codes, numberLine, catalogueLine, equilibriaText, struckText, tableReport}
 use Rattle.report_table.proofs.put_table.Statement.{statement}
 use Rattle.report_table.proofs.put_table.Tie as tie
 

@@ -18,7 +18,7 @@ use Rattle.payoff_tables.specs.Meaning.{Table}
 use Rattle.payoff_tables.proofs.Checks.{counts-law}
 use Rattle.outputs.proofs.Put.{puts-same}
 use Rattle.report_input.specs.Input.{maxReportCells}
-use Rattle.report_table.specs.Report.{tableReport}
+use Rattle.report_layout.specs.Table.{tableReport}
 use Rattle.report_text.proofs.put_read.Statement.{statement}
 use Rattle.report_text.proofs.put_read.Tie as tie
 

@@ -14,10 +14,10 @@ use Rattle.words.specs.Words.{Bytes, wordsOf}
 use Rattle.deposit.specs.Deposit.{countsIn, payoffsIn}
 use Rattle.outputs.proofs.Put.{puts-same}
 use Rattle.report_input.specs.Input.{maxReportCells, inputTable}
-use Rattle.report_table.specs.Report.{numberLine, tableReport}
-use Rattle.report_text.specs.Report.{toldReport, report}
+use Rattle.report_layout.specs.Table.{numberLine, tableReport}
+use Rattle.report_layout.specs.Report.{toldReport, report}
 use Rattle.report_text.proofs.Read.{report-refused, accepted, table, counts-read, payoffs-read, counts-size, payoffs-size, report-accepted, put-whole}
-use Rattle.report_text.proofs.Size.{report-size}
+use Rattle.report_layout.proofs.Size.{report-size}
 use Rattle.report_text.proofs.report.Statement.{statement}
 use Rattle.report_text.proofs.report.Tie as tie
 

@@ -14,9 +14,9 @@ use Rattle.strike_chains.proofs.Chain.{told}
 use Rattle.outputs.specs.Put.{Puts}
 use Rattle.outputs.proofs.Put.{puts-none}
 use Rattle.sweeps.specs.declared.Progress.{Progress}
-use Rattle.sweeps.specs.Sweeps.{strikesNumbers}
+use Rattle.strike_sweeps.specs.Sweeps.{strikesNumbers}
 use Rattle.sweeps.specs.Progress.{Runs}
-use Rattle.sweeps.proofs.Strikes.{strikeOf}
+use Rattle.strike_sweeps.proofs.Strikes.{strikeOf}
 use Rattle.sweeps.proofs.Runs.{reached-good, runs-one}
 use Rattle.sweeps.proofs.strike_one.Statement.{statement}
 use Rattle.sweeps.proofs.strike_one.Tie as tie

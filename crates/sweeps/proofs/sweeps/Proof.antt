@@ -15,10 +15,10 @@ use Rattle.payoff_tables.proofs.Checks.{table-law}
 use Rattle.survivors.specs.declared.Survivors.{Survivors}
 use Rattle.refusal.specs.Told.{unlessRefused}
 use Rattle.survivors.specs.Survivors.{markCount, freshOf, noSurvivors}
-use Rattle.sweeps.proofs.Ends.{sweeps-done}
+use Rattle.strike_sweeps.proofs.Ends.{sweeps-done}
 use Rattle.outputs.proofs.Put.{puts-length, puts-within}
-use Rattle.sweeps.specs.Sweeps.{sweeps, strikesNumbers}
-use Rattle.sweeps.specs.Meaning.{Done}
+use Rattle.strike_sweeps.specs.Sweeps.{sweeps, strikesNumbers}
+use Rattle.strike_sweeps.specs.Meaning.{Done}
 use Rattle.sweeps.proofs.Runs.{After, after-none, after-more, after-less, after-all}
 use Rattle.sweeps.proofs.sweeps.Statement.{statement}
 use Rattle.sweeps.proofs.sweeps.Tie as tie

@@ -2,7 +2,7 @@
 use mathlib.Core.Path.{_∙_}
 use borrow.Author.Needs.{needs}
 use Rattle.outputs.proofs.Put.{puts-same}
-use Rattle.text.proofs.Digits.{decimal-fewest}
+use Rattle.digits_and_lines.proofs.Digits.{decimal-fewest}
 use Rattle.text.proofs.put_decimal.Statement.{statement}
 use Rattle.text.proofs.put_decimal.Tie as tie
 

@@ -3,7 +3,7 @@ use mathlib.Core.Path.{_∙_}
 use native.Mathlib.Omega.{arith}
 use borrow.Author.Needs.{needs}
 use Rattle.outputs.proofs.Put.{puts-same}
-use Rattle.text.proofs.Digits.{hexadecimal-fewest}
+use Rattle.digits_and_lines.proofs.Digits.{hexadecimal-fewest}
 use Rattle.text.proofs.put_hexadecimal.Statement.{statement}
 use Rattle.text.proofs.put_hexadecimal.Tie as tie
 

@@ -2,7 +2,7 @@
 use mathlib.Core.List.{[], _∷_, _++_, map}
 use borrow.Author.Needs.{needs}
 use Rattle.outputs.proofs.Put.{puts-more}
-use Rattle.text.specs.Text.{decimal, spaced, joined, lineEnd, line}
+use Rattle.digits_and_lines.specs.Text.{decimal, spaced, joined, lineEnd, line}
 use Rattle.text.proofs.put_labelled.Statement.{statement}
 use Rattle.text.proofs.put_labelled.Tie as tie
 

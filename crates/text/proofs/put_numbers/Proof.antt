@@ -5,8 +5,8 @@ use native.Mathlib.Omega.{arith}
 use borrow.Author.Needs.{needs}
 use lib.ListN.{length, getD, take, drop}
 use Rattle.outputs.proofs.Put.{puts-more, puts-same}
-use Rattle.text.specs.Text.{decimal, spaced}
-use Rattle.text.proofs.Lines.{joined-none, joined-some}
+use Rattle.digits_and_lines.specs.Text.{decimal, spaced}
+use Rattle.digits_and_lines.proofs.Lines.{joined-none, joined-some}
 use Rattle.text.proofs.put_numbers.Statement.{statement}
 use Rattle.text.proofs.put_numbers.Tie as tie
 

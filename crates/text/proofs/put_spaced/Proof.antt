@@ -7,8 +7,8 @@ use lib.ListN.{length, getD, take}
 use lib.Seq.{take-all}
 use Rattle.outputs.specs.Put.{Puts}
 use Rattle.outputs.proofs.Put.{puts-none, puts-more, puts-same, puts-length}
-use Rattle.text.specs.Text.{decimal, space, spaced}
-use Rattle.text.proofs.Lines.{spaced-next}
+use Rattle.digits_and_lines.specs.Text.{decimal, space, spaced}
+use Rattle.digits_and_lines.proofs.Lines.{spaced-next}
 use Rattle.text.proofs.put_spaced.Statement.{statement}
 use Rattle.text.proofs.put_spaced.Tie as tie
 

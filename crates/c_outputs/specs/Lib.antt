@@ -1,2 +1,0 @@
--- The definitions of this crate: what a C caller is told.
-pub mod Status

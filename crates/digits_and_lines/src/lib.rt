@@ -1,0 +1,1 @@
+// Numbers as digits, and words in lines: definitions and their laws, no code.

@@ -1,2 +1,0 @@
--- The definitions of this crate: the lines of the report's two lists.
-pub mod Lines

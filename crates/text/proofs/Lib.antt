@@ -1,3 +1,0 @@
--- The proofs of this crate that are not of one function.
-pub mod Digits
-pub mod Lines
