@@ -9,8 +9,8 @@ use lib.ListN.{length, getD}
 use lib.Ieee.{Float, nan, lt}
 use Rattle.game.specs.Finite.{all}
 use Rattle.game.proofs.Finite.{and-T, no-T, eqb-T, test-true, test-false}
-use Rattle.utility.specs.Order.{finite}
-use Rattle.utility.proofs.All.{all-at, at-all}
+use Rattle.payoff_order.specs.Order.{finite}
+use Rattle.payoff_order.proofs.All.{all-at, at-all}
 use Rattle.sums.specs.Sums.{zero}
 use Rattle.candidate_input.specs.Input.{maxActions, sized, tolerable, wellFormed, claimed}
 use Rattle.candidate_input.specs.Meaning.{Sized, NoneBelow, Tolerable, WellFormed, Claimed}

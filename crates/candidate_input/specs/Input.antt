@@ -6,7 +6,7 @@ use lib.Dec.{leb, eqb}
 use lib.ListN.{length}
 use lib.Ieee.{Float, lt}
 use Rattle.game.specs.Finite.{all}
-use Rattle.utility.specs.Order.{finite}
+use Rattle.payoff_order.specs.Order.{finite}
 use Rattle.sums.specs.Sums.{zero}
 use Rattle.candidate_input.specs.declared.Claim.{Claim}
 

@@ -4,7 +4,7 @@ use mathlib.Core.Bool.{true, false}
 use mathlib.Core.List.{List, [], _∷_, flatMap}
 use lib.Ieee as Ieee
 use lib.Ieee.{Float, nan, inf, binary64, ofBits}
-use Rattle.utility.specs.Order.{finite}
+use Rattle.payoff_order.specs.Order.{finite}
 use Rattle.sums.specs.Sums.{zero, one, roundedSum, distance}
 use Rattle.candidate_input.specs.Input.{wellFormed, claimed}
 use Rattle.candidate_input.specs.declared.Claim.{Claim}

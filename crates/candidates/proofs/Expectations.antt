@@ -7,7 +7,7 @@ use Prim.Native.Nat.{ℕ}
 use lib.ListN.{getD}
 use lib.Ieee.{Float, nan, inf, binary64, neg, add, sub}
 use Rattle.game.specs.Finite.{all, below}
-use Rattle.utility.proofs.All.{all-cong}
+use Rattle.payoff_order.proofs.All.{all-cong}
 use Rattle.sums.specs.Sums.{sumOfProducts}
 use Rattle.candidate_input.specs.declared.Claim.{Claim}
 use Rattle.mixed_strategies.specs.Inner.{between, within}

@@ -6,7 +6,7 @@ use mathlib.Core.List.{List}
 use Prim.Native.Nat.{ℕ}
 use lib.Ieee.{Float, inf}
 use Rattle.game.specs.Finite.{all, below}
-use Rattle.utility.specs.Order.{finite}
+use Rattle.payoff_order.specs.Order.{finite}
 use Rattle.sums.specs.Sums.{zero}
 use Rattle.sums.specs.Inner.{strided}
 use Rattle.candidate_input.specs.Input.{wellFormed}

@@ -10,7 +10,7 @@ use lib.Dec.{T}
 use lib.IntN.{pos}
 use lib.Ieee.{Float, nan, inf, fin, binary64, lt, le, fits}
 use Rattle.game.specs.Finite.{_∈_, below}
-use Rattle.utility.specs.Order.{finite}
+use Rattle.payoff_order.specs.Order.{finite}
 use Rattle.sums.specs.Sums.{zero}
 use Rattle.candidate_input.specs.Input.{tolerable, wellFormed}
 use Rattle.gains.specs.Gains.{gainsOf}

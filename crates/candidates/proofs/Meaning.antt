@@ -8,7 +8,7 @@ use lib.Dec.{T}
 use lib.Ieee.{Float, binary64, add, sub, lt}
 use Rattle.game.specs.Finite.{all, below}
 use Rattle.game.proofs.Finite.{all-T, below-mem}
-use Rattle.utility.specs.Order.{finite}
+use Rattle.payoff_order.specs.Order.{finite}
 use Rattle.candidate_input.specs.Input.{tolerable, claimed}
 use Rattle.candidate_input.specs.Meaning.{Tolerable}
 use Rattle.candidate_input.specs.declared.Claim.{Claim}

@@ -5,7 +5,7 @@ use Prim.Native.Nat.{ℕ, _+_, _*_}
 use lib.ListN.{getD}
 use lib.Ieee.{Float, nan, binary64, add, sub, lt}
 use Rattle.game.specs.Finite.{all, below}
-use Rattle.utility.specs.Order.{finite}
+use Rattle.payoff_order.specs.Order.{finite}
 use Rattle.sums.specs.Sums.{sumOfProducts}
 use Rattle.candidate_input.specs.Input.{wellFormed, tolerable, claimed}
 use Rattle.candidate_input.specs.declared.Claim.{Claim}

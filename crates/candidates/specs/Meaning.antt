@@ -5,7 +5,7 @@ use mathlib.Core.List.{List}
 use Prim.Native.Nat.{ℕ, _<_}
 use lib.Dec.{T}
 use lib.Ieee.{Float, binary64, add, sub, lt}
-use Rattle.utility.specs.Order.{finite}
+use Rattle.payoff_order.specs.Order.{finite}
 use Rattle.candidate_input.specs.Meaning.{Claimed}
 use Rattle.candidate_input.specs.declared.Claim.{Claim}
 use Rattle.mixed_strategies.specs.Meaning.{Distribution}

@@ -22,9 +22,9 @@ use Rattle.refusal.specs.declared.UsizeOption.{UsizeOption}
 use Rattle.refusal.specs.declared.UsizeOption.the-variants.{None, Some}
 use Rattle.refusal.proofs.Refusal.{number-once}
 use Rattle.refusal.proofs.Told.{apart}
-use Rattle.utility.specs.Order.{key as orderKey, rank}
-use Rattle.utility.proofs.Laws.{zero-key}
-use Rattle.utility.proofs.Rank.{rank-lt, rank-eq}
+use Rattle.payoff_order.specs.Order.{key as orderKey, rank}
+use Rattle.payoff_order.proofs.Laws.{zero-key}
+use Rattle.payoff_order.proofs.Rank.{rank-lt, rank-eq}
 use Rattle.payoff_tables.specs.Table.{cell, payoffAt, tableGame}
 use Rattle.payoff_tables.specs.Checks.{tableRefusal}
 use Rattle.payoff_tables.specs.Meaning.{Doubles}

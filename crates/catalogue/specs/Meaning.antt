@@ -11,7 +11,7 @@ use lib.Signed.{ltZ}
 use lib.Ieee.{Float}
 use Rattle.game.specs.Finite.{filter}
 use Rattle.game.specs.Game.{Game, Profile, profiles}
-use Rattle.utility.specs.Order.{key as orderKey}
+use Rattle.payoff_order.specs.Order.{key as orderKey}
 use Rattle.payoff_tables.specs.Table.{payoffAt}
 use Rattle.payoff_tables.specs.Checks.{tableRefusal}
 use Rattle.bimatrix.specs.declared.Bimatrix.{Bimatrix}

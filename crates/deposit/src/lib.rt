@@ -8,9 +8,9 @@ use table::MAX_PLAYERS;
 ghost use mathlib.Core.Path.{_≡_};
 ghost use Rattle.refusal.specs.Refusal.{_then_};
 ghost use Rattle.refusal.specs.Told.{toldUsize, unless};
-ghost use Rattle.words.specs.Words.{wordsOf};
-ghost use Rattle.words.specs.Faults.{lengthFault};
-ghost use Rattle.deposit.specs.Deposit.{playersIn, openingFault};
+ghost use Rattle.file_words.specs.Words.{wordsOf};
+ghost use Rattle.file_words.specs.Faults.{lengthFault};
+ghost use Rattle.deposit_format.specs.Deposit.{playersIn, openingFault};
 
 // The kinds of an opening word, a count and a part of a payoff.
 pub const OPENING: u32 = 0;

@@ -19,10 +19,10 @@ ghost use Rattle.refusal.specs.Told.{toldUnit, toldUsize, unless};
 ghost use Rattle.written_lists.specs.Outputs.{over};
 ghost use Rattle.payoff_tables.specs.Limits.{maxPlayers, maxCells};
 ghost use Rattle.payoff_tables.specs.Table.{cells};
-ghost use Rattle.words.specs.Words.{payloads, payloadAt, wordsOf};
-ghost use Rattle.words.specs.Faults.{closingFault};
-ghost use Rattle.deposit.specs.Deposit.{playersIn, countsIn, payoffIn, payoffsIn, cellPlace, countFault, cellFault};
-ghost use Rattle.deposit.specs.Answers.{readAnswer, readCounts, readPayoffs};
+ghost use Rattle.file_words.specs.Words.{payloads, payloadAt, wordsOf};
+ghost use Rattle.file_words.specs.Faults.{closingFault};
+ghost use Rattle.deposit_format.specs.Deposit.{playersIn, countsIn, payoffIn, payoffsIn, cellPlace, countFault, cellFault};
+ghost use Rattle.deposit_format.specs.Answers.{readAnswer, readCounts, readPayoffs};
 
 // How many payloads there are, as a part of a payoff's bits.
 const PAYLOADS: usize = words::PAYLOADS as usize;

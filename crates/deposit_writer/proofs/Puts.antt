@@ -11,11 +11,11 @@ use lib.Seq.{sets, sets-eq, length-sets, take-suc, length-take-le}
 use lib.Ieee.{Float, nan}
 use Rattle.game.proofs.Finite.{flatMap-last}
 use Rattle.written_lists.specs.Outputs.{over}
-use Rattle.words.specs.Words.{word, wordBytes, bytesOf, closed}
-use Rattle.words.proofs.Words.{bytes-length}
-use Rattle.deposit.specs.Deposit.{payoffWords, deposit}
-use Rattle.deposit.specs.Meaning.{wordsBefore}
-use Rattle.deposit.proofs.Writer.{payoffs-words, body, body-length}
+use Rattle.file_words.specs.Words.{word, wordBytes, bytesOf, closed}
+use Rattle.file_words.proofs.Words.{bytes-length}
+use Rattle.deposit_format.specs.Deposit.{payoffWords, deposit}
+use Rattle.deposit_format.specs.Meaning.{wordsBefore}
+use Rattle.deposit_format.proofs.Writer.{payoffs-words, body, body-length}
 use Rattle.deposit_writer.specs.Put.{wordsPut}
 
 -- ---- stores one after the other

@@ -2,7 +2,7 @@
 use mathlib.Core.List.{List}
 use Prim.Native.Nat.{ℕ, _*_}
 use lib.Seq.{sets}
-use Rattle.words.specs.Words.{bytesOf}
+use Rattle.file_words.specs.Words.{bytesOf}
 
 -- the words' bytes stored one after the other, from the byte of a place on
 abbrev pub wordsPut : List ℕ → ℕ → List ℕ → List ℕ

@@ -16,11 +16,11 @@ ghost use lib.Dec.{T};
 ghost use lib.ListN.{length};
 ghost use lib.Ieee.{binary64, toBits};
 ghost use Rattle.refusal.specs.Told.{toldUsize};
-ghost use Rattle.utility.specs.Order.{finite};
+ghost use Rattle.payoff_order.specs.Order.{finite};
 ghost use Rattle.payoff_tables.specs.Meaning.{Shape, Finites};
-ghost use Rattle.words.specs.Words.{payloads, word};
-ghost use Rattle.deposit.specs.Deposit.{countKind, cellKind, payoffWords};
-ghost use Rattle.deposit.specs.Answers.{writeAnswer, writeBytes};
+ghost use Rattle.file_words.specs.Words.{payloads, word};
+ghost use Rattle.deposit_format.specs.Deposit.{countKind, cellKind, payoffWords};
+ghost use Rattle.deposit_format.specs.Answers.{writeAnswer, writeBytes};
 ghost use Rattle.deposit_writer.specs.Put.{wordsPut};
 
 // How many payloads there are, as a part of a payoff's bits, and the kinds of two words of a cell.

@@ -8,7 +8,7 @@ use Rattle.game.specs.Game.{profiles, whole, others}
 use Rattle.game.specs.Solution.{dominates, dominators, dominator}
 use Rattle.refusal.specs.Told.{values, refused}
 use Rattle.written_lists.specs.Outputs.{roomRefusal}
-use Rattle.utility.specs.Order.{finite, key, rank}
+use Rattle.payoff_order.specs.Order.{finite, key, rank}
 use Rattle.payoff_tables.specs.Table.{offset, payoffAt, tableGame}
 use Rattle.payoff_tables.specs.Checks.{countRefusal, countsRefusal, payoffsRefusal, tableRefusal, playerRefusal}
 use Rattle.payoff_tables.proofs.Examples.{zeros, ties, pair, dilemma}

@@ -8,7 +8,7 @@ use Rattle.game.specs.Game.{strategies, profiles, whole, inside}
 use Rattle.game.specs.Solution.{gains, deviations, equilibrium, equilibria}
 use Rattle.refusal.specs.Told.{values, refused}
 use Rattle.written_lists.specs.Outputs.{roomRefusal, over}
-use Rattle.utility.specs.Order.{finite, key, rank}
+use Rattle.payoff_order.specs.Order.{finite, key, rank}
 use Rattle.payoff_tables.specs.Table.{offset, payoffAt, profilePart, tableGame}
 use Rattle.payoff_tables.specs.Checks.{countRefusal, countsRefusal, payoffsRefusal, tableRefusal, profileRefusal}
 use Rattle.payoff_tables.proofs.Examples.{minus-zero, zero, one, two, zeros, pair, dilemma, pennies, twice}

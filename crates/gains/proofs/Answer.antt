@@ -13,8 +13,8 @@ use lib.IntN.{pos}
 use lib.Ieee.{Float, nan, inf, fin, binary64, ofBits, lt, le, eq, fits}
 use Rattle.game.specs.Finite.{_∈_, all}
 use Rattle.game.proofs.Finite.{either, test-true, test-false, all-T}
-use Rattle.utility.specs.Order.{finite, rank}
-use Rattle.utility.proofs.Laws.{lt-rank}
+use Rattle.payoff_order.specs.Order.{finite, rank}
+use Rattle.payoff_order.proofs.Laws.{lt-rank}
 use Rattle.sums.specs.Sums.{zero}
 use Rattle.gains.specs.Gains.{greatestFrom, greatest, answerOf}
 use Rattle.gains.specs.Meaning.{Greatest}

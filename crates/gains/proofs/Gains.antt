@@ -11,7 +11,7 @@ use native.Mathlib.Omega.{arith}
 use lib.Ieee.{Float, nan, inf, fin, lt, eq}
 use Rattle.game.specs.Finite.{all, below}
 use Rattle.game.proofs.Finite.{below-last, flatMap-last}
-use Rattle.utility.specs.Order.{finite}
+use Rattle.payoff_order.specs.Order.{finite}
 use Rattle.gains.specs.Gains.{greatestFrom}
 use Rattle.gains.specs.Inner.{raise, raiseAll}
 

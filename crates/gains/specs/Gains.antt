@@ -5,7 +5,7 @@ use Prim.Native.Nat.{ℕ}
 use lib.Dec.{eqb}
 use lib.Ieee.{Float, inf, binary64, sub, lt}
 use Rattle.game.specs.Finite.{all, below, filter}
-use Rattle.utility.specs.Order.{finite}
+use Rattle.payoff_order.specs.Order.{finite}
 use Rattle.sums.specs.Sums.{zero, sumOfProducts}
 
 module _ {I : Type 0} (weight payoff : ℕ → I → Float) (others : List I) where

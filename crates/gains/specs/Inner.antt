@@ -2,7 +2,7 @@
 use mathlib.Core.Bool.{false, cond}
 use mathlib.Core.List.{List, [], _∷_}
 use lib.Ieee.{Float, inf, lt}
-use Rattle.utility.specs.Order.{finite}
+use Rattle.payoff_order.specs.Order.{finite}
 
 -- the greater of the best so far and a gain, or infinity where the gain isn't finite
 abbrev pub raise : Float → Float → Float

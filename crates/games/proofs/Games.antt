@@ -12,7 +12,7 @@ use Rattle.game.specs.Solution.{dominates, dominators, dominator, gains, deviat
 use Rattle.game.specs.Strikes.{answer}
 use Rattle.refusal.specs.Told.{values, refused}
 use Rattle.written_lists.specs.Outputs.{roomRefusal}
-use Rattle.utility.specs.Order.{finite, key as orderKey, rank}
+use Rattle.payoff_order.specs.Order.{finite, key as orderKey, rank}
 use Rattle.payoff_tables.specs.Table.{offset, cell, payoffAt, profilePart, tableGame}
 use Rattle.payoff_tables.specs.Checks.{countRefusal, countsRefusal, payoffsRefusal, tableRefusal, playerRefusal, profileRefusal}
 use Rattle.payoff_tables.specs.Answers.{offsetAnswer, payoffAnswer}

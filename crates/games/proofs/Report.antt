@@ -6,16 +6,16 @@ use lib.Ieee as Ieee
 use Rattle.game.specs.Game.{strategies, profiles, whole, inside, others}
 use Rattle.game.specs.Solution.{dominates, dominators, dominator, gains, deviations, equilibrium, equilibria}
 use Rattle.game.specs.Strikes.{answer}
-use Rattle.utility.specs.Order.{finite, key as orderKey, rank}
+use Rattle.payoff_order.specs.Order.{finite, key as orderKey, rank}
 use Rattle.payoff_tables.specs.Table.{offset, payoffAt, profilePart, tableGame}
 use Rattle.payoff_tables.specs.Checks.{countRefusal, countsRefusal, payoffsRefusal, tableRefusal}
 use Rattle.payoff_tables.proofs.Examples.{pair, dilemma}
 use Rattle.marks.specs.Marks.{marked}
 use Rattle.survivors.specs.Survivors.{withoutMark, allMarks, freshOf, markedFrom, foreign}
 use Rattle.strikes.specs.Answers.{strikeAnswer, strikeLeaves}
-use Rattle.words.specs.Words.{word, kindOf, payloadOf, wordBytes, bytesOf, closed, wordAt, wordsOf}
-use Rattle.words.specs.Faults.{lengthFault, dueFault, closingFault}
-use Rattle.deposit.specs.Deposit.{payoffWords, deposit, playersIn, countsIn, payoffIn, payoffsIn, openingFault, countFault, cellFault, headFault, restFault}
+use Rattle.file_words.specs.Words.{word, kindOf, payloadOf, wordBytes, bytesOf, closed, wordAt, wordsOf}
+use Rattle.file_words.specs.Faults.{lengthFault, dueFault, closingFault}
+use Rattle.deposit_format.specs.Deposit.{payoffWords, deposit, playersIn, countsIn, payoffIn, payoffsIn, openingFault, countFault, cellFault, headFault, restFault}
 use Rattle.bimatrix.specs.Keys.{rankAmong, different, strictlyRanked, key, leastKey}
 use Rattle.catalogue.specs.Catalogue.{orders, rankings, catalogue, place}
 use Rattle.catalogue.specs.Answers.{twoByTwo, gameNumber}

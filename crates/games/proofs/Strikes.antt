@@ -11,7 +11,7 @@ use Rattle.game.specs.Solution.{dominates, dominators, dominator, gains, deviat
 use Rattle.game.specs.Strikes.{answer}
 use Rattle.refusal.specs.Told.{Told, values, refused}
 use Rattle.written_lists.specs.Outputs.{roomRefusal}
-use Rattle.utility.specs.Order.{finite, key, rank}
+use Rattle.payoff_order.specs.Order.{finite, key, rank}
 use Rattle.payoff_tables.specs.Limits.{maxPlayers, maxMarks}
 use Rattle.payoff_tables.specs.Table.{offset, payoffAt, profilePart, tableGame}
 use Rattle.payoff_tables.specs.Checks.{countRefusal, countsRefusal, payoffsRefusal, tableRefusal}

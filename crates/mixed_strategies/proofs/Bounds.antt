@@ -3,7 +3,7 @@ use mathlib.Core.Path.{_≡_, refl}
 use mathlib.Core.Bool.{Bool, true, false, not, _&&_, and-true}
 use lib.Dec.{T}
 use lib.Ieee.{Float, nan, inf, fin, neg, lt}
-use Rattle.utility.specs.Order.{finite}
+use Rattle.payoff_order.specs.Order.{finite}
 use Rattle.mixed_strategies.specs.Inner.{between}
 
 above-infinity : (x : Float) → T (finite x) → lt (inf false) x ≡ false

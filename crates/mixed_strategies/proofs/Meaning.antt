@@ -6,7 +6,7 @@ use mathlib.Core.Logic.{_↔_}
 use lib.Dec.{T}
 use lib.Ieee.{Float, binary64, neg, sub, lt}
 use Rattle.game.specs.Finite.{all}
-use Rattle.utility.specs.Order.{finite}
+use Rattle.payoff_order.specs.Order.{finite}
 use Rattle.sums.specs.Sums.{one, roundedSum, distance}
 use Rattle.candidate_input.specs.Input.{tolerable}
 use Rattle.candidate_input.proofs.Meaning.{both, none-T, all-law, none-below-law, tolerable-law}

@@ -3,7 +3,7 @@ use mathlib.Core.Bool.{Bool, not, _&&_}
 use mathlib.Core.List.{List}
 use lib.Ieee.{Float, binary64, neg, sub, lt}
 use Rattle.game.specs.Finite.{all}
-use Rattle.utility.specs.Order.{finite}
+use Rattle.payoff_order.specs.Order.{finite}
 use Rattle.sums.specs.Sums.{one, roundedSum, distance}
 use Rattle.candidate_input.specs.Input.{tolerable}
 

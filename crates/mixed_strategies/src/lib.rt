@@ -8,7 +8,7 @@ ghost use Prim.Native.Nat.{_<_, _≤_};
 ghost use lib.ListN.{length, getD};
 ghost use lib.Ieee.{Float, nan, lt};
 ghost use Rattle.game.specs.Finite.{all, below};
-ghost use Rattle.utility.specs.Order.{finite};
+ghost use Rattle.payoff_order.specs.Order.{finite};
 ghost use Rattle.sums.specs.Sums.{distance};
 ghost use Rattle.sums.specs.Inner.{Spans};
 ghost use Rattle.candidate_input.specs.Input.{maxActions};

@@ -17,8 +17,8 @@ use Rattle.refusal.specs.Refusal.{when, _then_, each}
 use Rattle.refusal.specs.declared.NormalFormError.{NormalFormError}
 use Rattle.refusal.specs.declared.NormalFormError.the-variants.{NoPlayers, TooManyPlayers, NoStrategies, TooManyStrategies, TooManyCells, PayoffCount, NonFiniteUtility, InvalidPlayer, ProfileCount, InvalidStrategy}
 use Rattle.refusal.proofs.Refusal.{when-none, then-none, each-none, each-some, none-each}
-use Rattle.utility.specs.Order.{finite}
-use Rattle.utility.proofs.All.{all-at, at-all}
+use Rattle.payoff_order.specs.Order.{finite}
+use Rattle.payoff_order.proofs.All.{all-at, at-all}
 use Rattle.payoff_tables.specs.Limits.{maxPlayers, maxStrategies, maxCells}
 use Rattle.payoff_tables.specs.Table.{cells}
 use Rattle.payoff_tables.specs.Checks.{countRefusal, countsRefusal, payoffsRefusal, tableRefusal, playerRefusal, profileRefusal}

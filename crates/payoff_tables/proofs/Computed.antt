@@ -9,7 +9,7 @@ use lib.ListN.{replicate}
 use lib.Ieee.{Float, nan, inf, fin}
 use Rattle.game.specs.Finite.{below}
 use Rattle.refusal.specs.Told.{values, refused}
-use Rattle.utility.specs.Order.{finite}
+use Rattle.payoff_order.specs.Order.{finite}
 use Rattle.payoff_tables.specs.Limits.{maxPlayers, maxStrategies}
 use Rattle.payoff_tables.specs.Table.{cells, offset, stride, cell, payoffAt, profilePart}
 use Rattle.payoff_tables.specs.Checks.{countRefusal, countsRefusal, payoffsRefusal, tableRefusal, playerRefusal, profileRefusal}

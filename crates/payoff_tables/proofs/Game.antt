@@ -8,8 +8,8 @@ use lib.Dec.{T, ltb, eqb}
 use lib.ListN.{length, getD}
 use lib.Ieee.{Float, nan, binary64, fits, lt, eq}
 use Rattle.game.specs.Game.{players, count, Playable, Profile}
-use Rattle.utility.specs.Order.{finite, greater}
-use Rattle.utility.proofs.Laws.{lt-rank, eq-rank, greater-rank}
+use Rattle.payoff_order.specs.Order.{finite, greater}
+use Rattle.payoff_order.proofs.Laws.{lt-rank, eq-rank, greater-rank}
 use Rattle.payoff_tables.specs.Table.{payoffAt, cell, cellRank, tableGame}
 use Rattle.payoff_tables.specs.Meaning.{Shape, Finites, Table}
 use Rattle.payoff_tables.proofs.Offsets.{cell-below}

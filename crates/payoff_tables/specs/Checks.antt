@@ -9,7 +9,7 @@ use Rattle.game.specs.Finite.{all, below}
 use Rattle.game.specs.Game.{choice}
 use Rattle.refusal.specs.Refusal.{Refusal, when, _then_, each}
 use Rattle.refusal.specs.declared.NormalFormError.the-variants.{NoPlayers, TooManyPlayers, NoStrategies, TooManyStrategies, TooManyCells, PayoffCount, NonFiniteUtility, InvalidPlayer, ProfileCount, InvalidStrategy}
-use Rattle.utility.specs.Order.{finite}
+use Rattle.payoff_order.specs.Order.{finite}
 use Rattle.payoff_tables.specs.Limits.{maxPlayers, maxStrategies, maxCells}
 use Rattle.payoff_tables.specs.Table.{cells}
 

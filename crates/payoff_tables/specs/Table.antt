@@ -6,7 +6,7 @@ use lib.ListN.{length, getD, take, drop}
 use lib.Ieee.{Float, nan}
 use Rattle.game.specs.Finite.{product}
 use Rattle.game.specs.Game.{Game}
-use Rattle.utility.specs.Order.{rank}
+use Rattle.payoff_order.specs.Order.{rank}
 
 -- cells in all: profiles × P. Cell is document 01's term: one payoff of the table
 abbrev pub cells : List ℕ → ℕ

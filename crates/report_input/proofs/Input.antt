@@ -24,15 +24,15 @@ use Rattle.payoff_tables.specs.Limits.{maxPlayers, maxCells}
 use Rattle.payoff_tables.specs.Table.{cells}
 use Rattle.payoff_tables.specs.Checks.{countRefusal}
 use Rattle.payoff_tables.specs.Meaning.{Table, Doubles}
-use Rattle.words.specs.Words.{Bytes, wordsOf}
-use Rattle.words.specs.Faults.{lengthFault, dueFault, closingFault}
-use Rattle.deposit.specs.Deposit.{deposit, playersIn, countsIn, payoffsIn, cellPlace, openingFault, countFault, cellFault, headFault, restFault, wordsFault, readRefusal, tableOf}
-use Rattle.deposit.specs.Answers.{readAnswer, readCounts, readPayoffs}
-use Rattle.deposit.proofs.Faults.{opening-law}
-use Rattle.deposit.proofs.Tables.{payoffs-length}
-use Rattle.deposit.proofs.Reader.{stages-none}
-use Rattle.deposit.proofs.Writer.{deposit-length}
-use Rattle.deposit.proofs.Back.{read-back, table-read}
+use Rattle.file_words.specs.Words.{Bytes, wordsOf}
+use Rattle.file_words.specs.Faults.{lengthFault, dueFault, closingFault}
+use Rattle.deposit_format.specs.Deposit.{deposit, playersIn, countsIn, payoffsIn, cellPlace, openingFault, countFault, cellFault, headFault, restFault, wordsFault, readRefusal, tableOf}
+use Rattle.deposit_format.specs.Answers.{readAnswer, readCounts, readPayoffs}
+use Rattle.deposit_format.proofs.Faults.{opening-law}
+use Rattle.deposit_format.proofs.Tables.{payoffs-length}
+use Rattle.deposit_format.proofs.Reader.{stages-none}
+use Rattle.deposit_format.proofs.Writer.{deposit-length}
+use Rattle.deposit_format.proofs.Back.{read-back, table-read}
 use Rattle.report_input.specs.Input.{maxReportCells, maxFileBytes, inputRefusal, inputTable}
 
 -- 5 in place of 13

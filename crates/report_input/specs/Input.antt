@@ -8,9 +8,9 @@ use lib.Ieee.{Float}
 use Rattle.refusal.specs.Refusal.{Refusal, when, _then_}
 use Rattle.refusal.specs.Told.{Told, unless}
 use Rattle.refusal.specs.declared.NormalFormError.the-variants.{TooManyCells}
-use Rattle.words.specs.Words.{wordsOf}
-use Rattle.words.specs.Faults.{lengthFault}
-use Rattle.deposit.specs.Deposit.{countsIn, payoffsIn, headFault, restFault}
+use Rattle.file_words.specs.Words.{wordsOf}
+use Rattle.file_words.specs.Faults.{lengthFault}
+use Rattle.deposit_format.specs.Deposit.{countsIn, payoffsIn, headFault, restFault}
 
 -- a deposit file of at most 2,048 cells
 abbrev pub maxReportCells : ℕ

@@ -5,7 +5,7 @@ use mathlib.Core.List.{[], _∷_, flatMap}
 use lib.Ieee as Ieee
 use Rattle.game.specs.Game.{strategies, profiles, whole, inside}
 use Rattle.game.specs.Solution.{gains, deviations, equilibrium, equilibria}
-use Rattle.utility.specs.Order.{key, rank}
+use Rattle.payoff_order.specs.Order.{key, rank}
 use Rattle.payoff_tables.specs.Table.{offset, payoffAt, profilePart, tableGame}
 use Rattle.payoff_tables.proofs.Examples.{one, two, pair, dilemma}
 use Rattle.digits_and_lines.specs.Text.{decimal, hexadecimal, spaced, joined, line}

@@ -15,7 +15,7 @@ use Rattle.game.proofs.Finite.{filter-at-most}
 use Rattle.game.proofs.Game.{length-profiles}
 use Rattle.game.proofs.Solution.{equilibria-law}
 use Rattle.written_lists.specs.Outputs.{over}
-use Rattle.utility.specs.Order.{finite}
+use Rattle.payoff_order.specs.Order.{finite}
 use Rattle.payoff_tables.specs.Limits.{maxStrategies, maxMarks}
 use Rattle.payoff_tables.specs.Table.{offset, tableGame, profilePart}
 use Rattle.payoff_tables.specs.Meaning.{Table}

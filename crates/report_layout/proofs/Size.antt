@@ -19,8 +19,8 @@ use Rattle.payoff_tables.specs.Table.{profilePart, tableGame}
 use Rattle.payoff_tables.specs.Meaning.{Table}
 use Rattle.payoff_tables.proofs.Table.{part-length}
 use Rattle.equilibria.specs.Answers.{tableEquilibria}
-use Rattle.words.specs.Words.{Bytes, wordsOf}
-use Rattle.deposit.specs.Deposit.{countsIn, payoffsIn}
+use Rattle.file_words.specs.Words.{Bytes, wordsOf}
+use Rattle.deposit_format.specs.Deposit.{countsIn, payoffsIn}
 use Rattle.bimatrix.specs.Matrices.{bimatrix}
 use Rattle.bimatrix.specs.Keys.{ranks, strictlyRanked, leastKey}
 use Rattle.catalogue.specs.Catalogue.{place, catalogue}

@@ -6,7 +6,7 @@ ghost use lib.Dec.{T};
 ghost use lib.ListN.{length, getD};
 ghost use lib.Seq.{sets};
 ghost use lib.Ieee.{nan};
-ghost use Rattle.utility.specs.Order.{finite};
+ghost use Rattle.payoff_order.specs.Order.{finite};
 ghost use Rattle.payoff_tables.specs.Meaning.{Finites};
 ghost use Rattle.outputs.specs.Put.{past};
 ghost use Rattle.digits_and_lines.specs.Text.{spaced};

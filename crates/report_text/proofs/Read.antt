@@ -16,8 +16,8 @@ use Rattle.refusal.proofs.Told.{apart, told-of, told-values}
 use Rattle.payoff_tables.specs.Limits.{maxPlayers}
 use Rattle.payoff_tables.specs.Table.{cells}
 use Rattle.payoff_tables.specs.Meaning.{Table}
-use Rattle.words.specs.Words.{Bytes, wordsOf}
-use Rattle.deposit.specs.Deposit.{countsIn, payoffsIn}
+use Rattle.file_words.specs.Words.{Bytes, wordsOf}
+use Rattle.deposit_format.specs.Deposit.{countsIn, payoffsIn}
 use Rattle.outputs.proofs.Put.{past-all, sets-all}
 use Rattle.outputs.specs.Put.{Puts}
 use Rattle.report_input.specs.Input.{maxReportCells, inputRefusal, inputTable}

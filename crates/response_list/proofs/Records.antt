@@ -18,7 +18,7 @@ use Rattle.refusal.proofs.Refusal.{then-none, then-assoc}
 use Rattle.refusal.proofs.Told.{apart, told-values}
 use Rattle.written_lists.specs.Outputs.{roomRefusal, written, over}
 use Rattle.written_lists.proofs.Outputs.{first-short, room-fits, over-next}
-use Rattle.utility.specs.Order.{finite}
+use Rattle.payoff_order.specs.Order.{finite}
 use Rattle.utility.specs.Value.{valueOf}
 use Rattle.utility.specs.declared.Utility.{Utility}
 use Rattle.payoff_tables.specs.Limits.{maxStrategies}

@@ -6,7 +6,7 @@ use Rattle.game.specs.Game.{whole}
 use Rattle.game.specs.Solution.{gains, bestResponse, bestResponses}
 use Rattle.refusal.specs.Told.{values, refused}
 use Rattle.written_lists.specs.Outputs.{roomRefusal, over}
-use Rattle.utility.specs.Order.{finite, key, rank}
+use Rattle.payoff_order.specs.Order.{finite, key, rank}
 use Rattle.payoff_tables.specs.Table.{offset, payoffAt, tableGame}
 use Rattle.payoff_tables.specs.Checks.{countRefusal, countsRefusal, payoffsRefusal, tableRefusal, playerRefusal}
 use Rattle.payoff_tables.proofs.Examples.{five, zeros, ties, pair, dilemma}

@@ -17,8 +17,8 @@ use Rattle.game.proofs.Solution.{bestResponses-law, best-whole}
 use Rattle.refusal.specs.Told.{Told, refused}
 use Rattle.written_lists.specs.Outputs.{written, over}
 use Rattle.written_lists.proofs.Outputs.{refused-kept}
-use Rattle.utility.specs.Order.{key, rank}
-use Rattle.utility.proofs.Rank.{rank-eq}
+use Rattle.payoff_order.specs.Order.{key, rank}
+use Rattle.payoff_order.proofs.Rank.{rank-eq}
 use Rattle.payoff_tables.specs.Table.{cell, payoffAt, tableGame}
 use Rattle.payoff_tables.proofs.Game.{game-playable}
 use Rattle.payoff_tables.proofs.Offsets.{cell-below}

@@ -19,11 +19,11 @@ use Rattle.refusal.proofs.Told.{told-values, told-refused, told-of}
 use Rattle.payoff_tables.specs.Checks.{tableRefusal}
 use Rattle.written_lists.specs.Outputs.{writtenOf, over}
 use Rattle.payoff_tables.proofs.Checks.{table-law}
-use Rattle.words.specs.Words.{Bytes, wordsOf}
-use Rattle.deposit.specs.Deposit.{deposit, fileOf, countsIn, payoffsIn, readRefusal, tableOf}
+use Rattle.file_words.specs.Words.{Bytes, wordsOf}
+use Rattle.deposit_format.specs.Deposit.{deposit, fileOf, countsIn, payoffsIn, readRefusal, tableOf}
 use Rattle.payoff_tables.specs.Meaning.{Doubles}
-use Rattle.deposit.specs.Answers.{readAnswer, readCounts, readPayoffs, writeAnswer, writeBytes}
-use Rattle.deposit.proofs.Back.{read-back, table-read, write-back}
+use Rattle.deposit_format.specs.Answers.{readAnswer, readCounts, readPayoffs, writeAnswer, writeBytes}
+use Rattle.deposit_format.proofs.Back.{read-back, table-read, write-back}
 use Rattle.round_trips.specs.RoundTrips.{writtenRead, readWritten}
 
 first-of : (a b c : Refusal) (e : NormalFormError) → (a then b) ≡ some e → (a then b then c) ≡ some e

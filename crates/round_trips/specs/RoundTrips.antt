@@ -7,7 +7,7 @@ use Rattle.refusal.specs.Refusal.{_then_}
 use Rattle.refusal.specs.Told.{Told, unless}
 use Rattle.payoff_tables.specs.Checks.{tableRefusal}
 use Rattle.written_lists.specs.Outputs.{shortRefusal}
-use Rattle.deposit.specs.Deposit.{deposit, readRefusal}
+use Rattle.deposit_format.specs.Deposit.{deposit, readRefusal}
 
 -- the table itself, for every table with none of refusals 1 to 7, where the file, the counts and the payoffs have room; else 1 to 7, or 13
 abbrev pub writtenRead : List ℕ → List Float → ℕ → ℕ → ℕ → Told (List ℕ × List Float)

@@ -11,7 +11,7 @@ ghost use mathlib.Core.Path.{_≡_};
 ghost use lib.ListN.{length};
 ghost use Rattle.refusal.specs.Told.{toldUsize, toldOf};
 ghost use Rattle.written_lists.specs.Outputs.{writtenOf, over};
-ghost use Rattle.deposit.specs.Answers.{readCounts, readPayoffs, writeBytes};
+ghost use Rattle.deposit_format.specs.Answers.{readCounts, readPayoffs, writeBytes};
 ghost use Rattle.round_trips.specs.RoundTrips.{writtenRead, readWritten};
 
 // A call of `write`, and then one of `read` on what it wrote: the table comes back.

@@ -7,7 +7,7 @@ use Rattle.game.specs.Game.{strategy, strategies, profiles, inside}
 use Rattle.game.specs.Solution.{gains, deviations, equilibrium, equilibria}
 use Rattle.refusal.specs.Told.{values}
 use Rattle.written_lists.specs.Outputs.{roomRefusal}
-use Rattle.utility.specs.Order.{finite, key, rank}
+use Rattle.payoff_order.specs.Order.{finite, key, rank}
 use Rattle.payoff_tables.specs.Table.{offset, payoffAt, profilePart, tableGame}
 use Rattle.payoff_tables.specs.Checks.{countRefusal, countsRefusal, payoffsRefusal, tableRefusal}
 use Rattle.payoff_tables.proofs.Examples.{one, pair, twice}

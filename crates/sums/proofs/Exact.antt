@@ -18,8 +18,8 @@ use lib.Ieee.Bits.{ofBits-toBits}
 use lib.Ieee.Exact.{HasValue, round-exact}
 use lib.Ieee.Nearest.{div-same}
 use Rattle.game.specs.Finite.{_∈_}
-use Rattle.utility.specs.Order.{finite}
-use Rattle.utility.proofs.Numbers.{place}
+use Rattle.payoff_order.specs.Order.{finite}
+use Rattle.payoff_order.proofs.Numbers.{place}
 use Rattle.sums.specs.Sums.{zero as nought, one, addAll, roundedSum}
 
 -- ---- one value for a sign and a size

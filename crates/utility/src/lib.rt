@@ -3,7 +3,7 @@ use refusal::NormalFormError;
 ghost use mathlib.Core.Path.{_≡_};
 ghost use lib.Dec.{T};
 ghost use Rattle.game.specs.Finite.{all};
-ghost use Rattle.utility.specs.Order.{finite, greater, equal};
+ghost use Rattle.payoff_order.specs.Order.{finite, greater, equal};
 ghost use Rattle.utility.specs.Value.{valueOf, toldUtility, utilityAnswer};
 
 // A payoff that has passed the finite check, by a test or by a proof. The field is private, so that a raw float can't enter a comparison unchecked.

@@ -8,8 +8,8 @@ ghost use mathlib.Core.Option.{none};
 ghost use Prim.Native.Nat.{_+_, _*_, _≤_, _<_};
 ghost use lib.ListN.{length};
 ghost use Rattle.refusal.specs.Told.{toldUnit, toldUsize, unless};
-ghost use Rattle.words.specs.Words.{wordAt, wordsOf, payloadAt};
-ghost use Rattle.words.specs.Faults.{lengthFault, dueFault, closingFault};
+ghost use Rattle.file_words.specs.Words.{wordAt, wordsOf, payloadAt};
+ghost use Rattle.file_words.specs.Faults.{lengthFault, dueFault, closingFault};
 
 // How many payloads there are: 30 bits of a word.
 pub const PAYLOADS: u32 = 0x40000000;

@@ -8,7 +8,7 @@ use lib.Ieee.{Float, nan, lt}
 use lib.ListN.{length, take, getD}
 use lib.Seq.{take-all}
 use Rattle.game.specs.Finite.{all}
-use Rattle.utility.proofs.All.{all-next}
+use Rattle.payoff_order.proofs.All.{all-next}
 use Rattle.candidate_input.proofs.none_below.Statement.{statement}
 use Rattle.candidate_input.proofs.none_below.Tie as tie
 

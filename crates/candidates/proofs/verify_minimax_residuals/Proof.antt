@@ -8,8 +8,8 @@ use borrow.Author.Tests.{not-true, not-false}
 use lib.Dec.{T}
 use lib.Ieee.{Float, nan, binary64, neg, add, sub}
 use Rattle.game.specs.Finite.{all, below}
-use Rattle.utility.specs.Order.{finite}
-use Rattle.utility.proofs.All.{at-all}
+use Rattle.payoff_order.specs.Order.{finite}
+use Rattle.payoff_order.proofs.All.{at-all}
 use Rattle.candidate_input.specs.Input.{claimed}
 use Rattle.candidate_input.specs.Meaning.{Claimed}
 use Rattle.candidate_input.proofs.Meaning.{claimed-law}

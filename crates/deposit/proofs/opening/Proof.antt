@@ -7,10 +7,10 @@ use native.Mathlib.Omega.{arith}
 use borrow.Author.Needs.{needs}
 use Rattle.refusal.specs.Told.{toldUnit, toldUsize}
 use Rattle.refusal.proofs.Told.{told-values, refused-first}
-use Rattle.words.specs.Words.{wordsOf, payloadAt}
-use Rattle.words.specs.Faults.{lengthFault, dueFault}
-use Rattle.deposit.specs.Deposit.{playersIn, openingFault}
-use Rattle.deposit.proofs.Faults.{players-is, wrong-edition, opens-none, opens-many, opens}
+use Rattle.file_words.specs.Words.{wordsOf, payloadAt}
+use Rattle.file_words.specs.Faults.{lengthFault, dueFault}
+use Rattle.deposit_format.specs.Deposit.{playersIn, openingFault}
+use Rattle.deposit_format.proofs.Faults.{players-is, wrong-edition, opens-none, opens-many, opens}
 use Rattle.deposit.proofs.opening.Statement.{statement}
 use Rattle.deposit.proofs.opening.Tie as tie
 

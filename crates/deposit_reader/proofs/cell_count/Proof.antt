@@ -21,10 +21,10 @@ use Rattle.payoff_tables.specs.Checks.{countRefusal, countsRefusal}
 use Rattle.payoff_tables.specs.Answers.{countsAnswer}
 use Rattle.payoff_tables.proofs.Checks.{counts-law}
 use Rattle.table.proofs.Space.{Filled, filled-none, filled-more}
-use Rattle.words.specs.Words.{wordsOf, payloadAt}
-use Rattle.deposit.specs.Deposit.{countsIn, countFault}
-use Rattle.deposit.proofs.Faults.{count-fault-law}
-use Rattle.deposit.proofs.Tables.{counts-length, counts-at, filled-counts, counts-left}
+use Rattle.file_words.specs.Words.{wordsOf, payloadAt}
+use Rattle.deposit_format.specs.Deposit.{countsIn, countFault}
+use Rattle.deposit_format.proofs.Faults.{count-fault-law}
+use Rattle.deposit_format.proofs.Tables.{counts-length, counts-at, filled-counts, counts-left}
 use Rattle.deposit_reader.proofs.cell_count.Statement.{statement}
 use Rattle.deposit_reader.proofs.cell_count.Tie as tie
 

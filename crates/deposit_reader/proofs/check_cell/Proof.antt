@@ -13,13 +13,13 @@ use Rattle.refusal.specs.Refusal.{when}
 use Rattle.refusal.specs.declared.NormalFormError.the-variants.{NonFiniteUtility}
 use Rattle.refusal.specs.Told.{toldUsize, refused}
 use Rattle.refusal.proofs.Told.{told-values, told-refused, refused-first}
-use Rattle.utility.specs.Order.{finite}
-use Rattle.words.specs.Words.{wordsOf, payloadAt}
-use Rattle.words.specs.Faults.{dueFault}
-use Rattle.words.proofs.Words.{payload-lt}
-use Rattle.deposit.specs.Deposit.{cellFault}
-use Rattle.deposit.proofs.Bits.{bits-finite}
-use Rattle.deposit.proofs.Faults.{payoff-bits, first-over, second-bad, third-bad, cell-read}
+use Rattle.payoff_order.specs.Order.{finite}
+use Rattle.file_words.specs.Words.{wordsOf, payloadAt}
+use Rattle.file_words.specs.Faults.{dueFault}
+use Rattle.file_words.proofs.Words.{payload-lt}
+use Rattle.deposit_format.specs.Deposit.{cellFault}
+use Rattle.deposit_format.proofs.Bits.{bits-finite}
+use Rattle.deposit_format.proofs.Faults.{payoff-bits, first-over, second-bad, third-bad, cell-read}
 use Rattle.deposit_reader.proofs.check_cell.Statement.{statement}
 use Rattle.deposit_reader.proofs.check_cell.Tie as tie
 

@@ -9,8 +9,8 @@ use Rattle.refusal.specs.Refusal.{Refusal}
 use Rattle.refusal.specs.Told.{toldUnit, refused}
 use Rattle.refusal.proofs.Refusal.{each-none, each-some}
 use Rattle.refusal.proofs.Told.{told-values, told-refused}
-use Rattle.words.specs.Words.{wordsOf}
-use Rattle.deposit.specs.Deposit.{cellFault}
+use Rattle.file_words.specs.Words.{wordsOf}
+use Rattle.deposit_format.specs.Deposit.{cellFault}
 use Rattle.deposit_reader.proofs.check_cells.Statement.{statement}
 use Rattle.deposit_reader.proofs.check_cells.Tie as tie
 

@@ -7,8 +7,8 @@ use Rattle.game.specs.Finite.{below}
 use Rattle.refusal.specs.Refusal.{Refusal, each}
 use Rattle.refusal.specs.Told.{toldUnit}
 use Rattle.refusal.proofs.Told.{told-values, refused-first}
-use Rattle.words.specs.Words.{wordsOf}
-use Rattle.deposit.specs.Deposit.{cellFault}
+use Rattle.file_words.specs.Words.{wordsOf}
+use Rattle.deposit_format.specs.Deposit.{cellFault}
 use Rattle.deposit_reader.proofs.check_rest.Statement.{statement}
 use Rattle.deposit_reader.proofs.check_rest.Tie as tie
 

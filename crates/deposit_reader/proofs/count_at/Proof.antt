@@ -8,10 +8,10 @@ use borrow.Author.Needs.{needs}
 use Rattle.refusal.specs.Told.{toldUsize}
 use Rattle.refusal.proofs.Told.{told-values, refused-first}
 use Rattle.payoff_tables.proofs.Checks.{count-zero, count-over, count-fits}
-use Rattle.words.specs.Words.{wordsOf, payloadAt}
-use Rattle.words.specs.Faults.{dueFault}
-use Rattle.deposit.specs.Deposit.{countFault}
-use Rattle.deposit.proofs.Faults.{count-read}
+use Rattle.file_words.specs.Words.{wordsOf, payloadAt}
+use Rattle.file_words.specs.Faults.{dueFault}
+use Rattle.deposit_format.specs.Deposit.{countFault}
+use Rattle.deposit_format.proofs.Faults.{count-read}
 use Rattle.deposit_reader.proofs.count_at.Statement.{statement}
 use Rattle.deposit_reader.proofs.count_at.Tie as tie
 

@@ -6,12 +6,12 @@ use native.Mathlib.Omega.{arith}
 use lib.Dec.{T}
 use lib.ListN.{getD}
 use lib.Ieee.{Float, binary64, ofBits}
-use Rattle.utility.specs.Order.{finite}
-use Rattle.words.specs.Words.{wordsOf}
-use Rattle.words.proofs.Words.{payload-lt}
-use Rattle.deposit.specs.Deposit.{payoffIn}
-use Rattle.deposit.proofs.Bits.{bits-no-nan}
-use Rattle.deposit.proofs.Faults.{Cell, cell-law, payoff-bits}
+use Rattle.payoff_order.specs.Order.{finite}
+use Rattle.file_words.specs.Words.{wordsOf}
+use Rattle.file_words.proofs.Words.{payload-lt}
+use Rattle.deposit_format.specs.Deposit.{payoffIn}
+use Rattle.deposit_format.proofs.Bits.{bits-no-nan}
+use Rattle.deposit_format.proofs.Faults.{Cell, cell-law, payoff-bits}
 use Rattle.deposit_reader.proofs.payoff_at.Statement.{statement}
 use Rattle.deposit_reader.proofs.payoff_at.Tie as tie
 

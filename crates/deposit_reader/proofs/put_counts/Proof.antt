@@ -8,9 +8,9 @@ use lib.ListN.{length, take}
 use lib.Seq.{take-all, length-take-le}
 use Rattle.written_lists.specs.Outputs.{over}
 use Rattle.written_lists.proofs.Outputs.{over-length, over-next}
-use Rattle.words.specs.Words.{wordsOf}
-use Rattle.deposit.specs.Deposit.{countsIn}
-use Rattle.deposit.proofs.Tables.{counts-length, counts-at}
+use Rattle.file_words.specs.Words.{wordsOf}
+use Rattle.deposit_format.specs.Deposit.{countsIn}
+use Rattle.deposit_format.proofs.Tables.{counts-length, counts-at}
 use Rattle.deposit_reader.proofs.put_counts.Statement.{statement}
 use Rattle.deposit_reader.proofs.put_counts.Tie as tie
 

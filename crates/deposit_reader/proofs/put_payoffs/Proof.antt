@@ -8,9 +8,9 @@ use lib.Seq.{take-all, length-take-le}
 use lib.Ieee.{nan}
 use Rattle.written_lists.specs.Outputs.{over}
 use Rattle.written_lists.proofs.Outputs.{over-length, over-next}
-use Rattle.words.specs.Words.{wordsOf}
-use Rattle.deposit.specs.Deposit.{payoffsIn, cellPlace, payoffIn}
-use Rattle.deposit.proofs.Tables.{payoffs-length, payoffs-at}
+use Rattle.file_words.specs.Words.{wordsOf}
+use Rattle.deposit_format.specs.Deposit.{payoffsIn, cellPlace, payoffIn}
+use Rattle.deposit_format.proofs.Tables.{payoffs-length, payoffs-at}
 use Rattle.deposit_reader.proofs.put_payoffs.Statement.{statement}
 use Rattle.deposit_reader.proofs.put_payoffs.Tie as tie
 

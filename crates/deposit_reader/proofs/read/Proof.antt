@@ -17,11 +17,11 @@ use Rattle.refusal.proofs.Refusal.{when-none, then-none, none-each}
 use Rattle.refusal.proofs.Told.{told-values, told-refused}
 use Rattle.payoff_tables.specs.Limits.{maxPlayers, maxCells}
 use Rattle.payoff_tables.specs.Table.{cells}
-use Rattle.words.specs.Words.{wordsOf}
-use Rattle.words.specs.Faults.{lengthFault, closingFault}
-use Rattle.deposit.specs.Deposit.{playersIn, countsIn, cellPlace, openingFault, countFault, cellFault, readRefusal}
-use Rattle.deposit.proofs.Faults.{opening-law}
-use Rattle.deposit.proofs.Reader.{opened, counted, restFrom, rest, bad-opening, bad-counts, short-counts, short-payoffs, room-is-rest, read-refused, read-accepted}
+use Rattle.file_words.specs.Words.{wordsOf}
+use Rattle.file_words.specs.Faults.{lengthFault, closingFault}
+use Rattle.deposit_format.specs.Deposit.{playersIn, countsIn, cellPlace, openingFault, countFault, cellFault, readRefusal}
+use Rattle.deposit_format.proofs.Faults.{opening-law}
+use Rattle.deposit_format.proofs.Reader.{opened, counted, restFrom, rest, bad-opening, bad-counts, short-counts, short-payoffs, room-is-rest, read-refused, read-accepted}
 use Rattle.deposit_reader.proofs.read.Statement.{statement}
 use Rattle.deposit_reader.proofs.read.Tie as tie
 

@@ -3,8 +3,8 @@ use mathlib.Core.Path.{sym, _∙_, subst}
 use native.Mathlib.Omega.{arith}
 use borrow.Author.Needs.{needs}
 use lib.Dec.{T}
-use Rattle.utility.proofs.Laws.{finite-no-nan}
-use Rattle.words.specs.Words.{word}
+use Rattle.payoff_order.proofs.Laws.{finite-no-nan}
+use Rattle.file_words.specs.Words.{word}
 use Rattle.deposit_writer.proofs.pair.Statement.{statement}
 use Rattle.deposit_writer.proofs.pair.Tie as tie
 

@@ -7,9 +7,9 @@ use lib.Dec.{T}
 use lib.ListN.{length}
 use lib.Ieee.Bits.{toBits-lt}
 use lib.Ieee.{binary64, toBits}
-use Rattle.utility.proofs.Laws.{finite-no-nan}
-use Rattle.words.specs.Words.{word}
-use Rattle.deposit.specs.Deposit.{payoffWords}
+use Rattle.payoff_order.proofs.Laws.{finite-no-nan}
+use Rattle.file_words.specs.Words.{word}
+use Rattle.deposit_format.specs.Deposit.{payoffWords}
 use Rattle.deposit_writer.specs.Put.{wordsPut}
 use Rattle.deposit_writer.proofs.Puts.{put-length, put-more}
 use Rattle.deposit_writer.proofs.put_payoff.Statement.{statement}

@@ -3,7 +3,7 @@ use mathlib.Core.Path.{refl, _∙_}
 use Prim.Native.Nat.{_*_}
 use native.Mathlib.Omega.{arith}
 use lib.ListN.{length-set}
-use Rattle.words.specs.Words.{word, wordBytes}
+use Rattle.file_words.specs.Words.{word, wordBytes}
 use Rattle.deposit_writer.proofs.Puts.{four-stores, word-stores}
 use Rattle.deposit_writer.proofs.put_word.Statement.{statement}
 use Rattle.deposit_writer.proofs.put_word.Tie as tie

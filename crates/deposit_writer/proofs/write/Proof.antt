@@ -12,12 +12,12 @@ use Rattle.refusal.proofs.Told.{told-refused}
 use Rattle.payoff_tables.specs.Limits.{maxPlayers, maxCells}
 use Rattle.payoff_tables.specs.Checks.{tableRefusal}
 use Rattle.payoff_tables.proofs.Table.{TableTold, table-told}
-use Rattle.words.specs.Words.{word}
-use Rattle.deposit.specs.Deposit.{payoffWords, deposit}
+use Rattle.file_words.specs.Words.{word}
+use Rattle.deposit_format.specs.Deposit.{payoffWords, deposit}
 use Rattle.deposit_writer.specs.Put.{wordsPut}
-use Rattle.deposit.specs.Meaning.{wordsBefore}
+use Rattle.deposit_format.specs.Meaning.{wordsBefore}
 use Rattle.deposit_writer.proofs.Puts.{put-length, file-put}
-use Rattle.deposit.proofs.Writer.{deposit-length, write-refused, write-short, write-accepted}
+use Rattle.deposit_format.proofs.Writer.{deposit-length, write-refused, write-short, write-accepted}
 use Rattle.deposit_writer.proofs.write.Statement.{statement}
 use Rattle.deposit_writer.proofs.write.Tie as tie
 

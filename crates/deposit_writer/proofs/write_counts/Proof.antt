@@ -6,7 +6,7 @@ use native.Mathlib.Omega.{arith}
 use lib.ListN.{length, getD, take}
 use lib.Seq.{take-all}
 use Rattle.payoff_tables.specs.Limits.{maxPlayers, maxStrategies}
-use Rattle.words.specs.Words.{word}
+use Rattle.file_words.specs.Words.{word}
 use Rattle.deposit_writer.specs.Put.{wordsPut}
 use Rattle.deposit_writer.proofs.Puts.{put-length, put-none, counts-more}
 use Rattle.deposit_writer.proofs.write_counts.Statement.{statement}

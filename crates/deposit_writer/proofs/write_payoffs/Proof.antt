@@ -6,7 +6,7 @@ use native.Mathlib.Omega.{arith}
 use lib.ListN.{length, getD, take}
 use lib.Seq.{take-all}
 use lib.Ieee.{nan}
-use Rattle.deposit.specs.Deposit.{payoffWords}
+use Rattle.deposit_format.specs.Deposit.{payoffWords}
 use Rattle.deposit_writer.specs.Put.{wordsPut}
 use Rattle.deposit_writer.proofs.Puts.{put-length, put-none, payoffs-more}
 use Rattle.deposit_writer.proofs.write_payoffs.Statement.{statement}

@@ -3,7 +3,7 @@ use mathlib.Core.Path.{_≡_, sym, _∙_}
 use mathlib.Core.Bool.{true, false}
 use borrow.Author.Needs.{needs}
 use borrow.Author.Tests.{not-true, not-false}
-use Rattle.utility.specs.Order.{finite}
+use Rattle.payoff_order.specs.Order.{finite}
 use Rattle.gains.proofs.raised.Statement.{statement}
 use Rattle.gains.proofs.raised.Tie as tie
 

@@ -8,8 +8,8 @@ use borrow.Author.Needs.{needs}
 use lib.Ieee.{nan, lt}
 use lib.ListN.{getD}
 use Rattle.game.specs.Finite.{all, below}
-use Rattle.utility.specs.Order.{finite}
-use Rattle.utility.proofs.All.{all-below}
+use Rattle.payoff_order.specs.Order.{finite}
+use Rattle.payoff_order.proofs.All.{all-below}
 use Rattle.mixed_strategies.specs.Inner.{between}
 use Rattle.mixed_strategies.proofs.all_between.Statement.{statement}
 use Rattle.mixed_strategies.proofs.all_between.Tie as tie

@@ -9,8 +9,8 @@ use lib.Ieee.{Float, nan, binary64, mul}
 use lib.ListN.{length, getD}
 use Rattle.game.specs.Finite.{below}
 use Rattle.game.proofs.Finite.{below-mem}
-use Rattle.utility.specs.Order.{finite}
-use Rattle.utility.proofs.All.{all-at, all-cong}
+use Rattle.payoff_order.specs.Order.{finite}
+use Rattle.payoff_order.proofs.All.{all-at, all-cong}
 use Rattle.sums.specs.Sums.{sumOfProducts}
 use Rattle.sums.specs.Inner.{strided}
 use Rattle.sums.proofs.Sums.{added-cong, SideBySide, side-start, side-below}

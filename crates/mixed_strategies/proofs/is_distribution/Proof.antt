@@ -6,7 +6,7 @@ use borrow.Author.Needs.{needs}
 use borrow.Author.Tests.{not-true, not-false}
 use lib.Ieee.{Float, neg, lt}
 use Rattle.game.specs.Finite.{all}
-use Rattle.utility.specs.Order.{finite}
+use Rattle.payoff_order.specs.Order.{finite}
 use Rattle.candidate_input.specs.Input.{tolerable}
 use Rattle.mixed_strategies.specs.Distribution.{distribution}
 use Rattle.mixed_strategies.proofs.is_distribution.Statement.{statement}

@@ -11,7 +11,7 @@ use Rattle.refusal.specs.Refusal.{numberOf}
 use Rattle.refusal.specs.Told.{toldUsize, refused}
 use Rattle.written_lists.specs.Outputs.{writtenOf, over}
 use Rattle.payoff_tables.specs.Limits.{maxPlayers}
-use Rattle.deposit.specs.Answers.{readAnswer}
+use Rattle.deposit_format.specs.Answers.{readAnswer}
 use Rattle.report_input.specs.Input.{maxReportCells, maxFileBytes, inputTable}
 use Rattle.report_input.proofs.Input.{over-told, counts-written, payoffs-written, players-told, short-told, refused-told}
 use Rattle.report_input.proofs.read.Statement.{statement}

@@ -6,7 +6,7 @@ use native.Mathlib.Omega.{arith}
 use lib.ListN.{length, getD, take}
 use lib.Seq.{take-all}
 use lib.Ieee.{Float, nan}
-use Rattle.utility.proofs.Laws.{finite-no-nan}
+use Rattle.payoff_order.proofs.Laws.{finite-no-nan}
 use Rattle.outputs.specs.Put.{Puts}
 use Rattle.outputs.proofs.Put.{puts-none, puts-more, puts-same, puts-length}
 use Rattle.digits_and_lines.specs.Text.{space, spaced}

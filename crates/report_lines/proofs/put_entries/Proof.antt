@@ -7,7 +7,7 @@ use lib.Dec.{T}
 use lib.ListN.{length, take, drop}
 use lib.Ieee.{Float, nan}
 use Rattle.game.specs.Finite.{below}
-use Rattle.utility.specs.Order.{finite}
+use Rattle.payoff_order.specs.Order.{finite}
 use Rattle.outputs.specs.Put.{Puts}
 use Rattle.outputs.proofs.Put.{puts-none, puts-more, puts-same, puts-length}
 use Rattle.report_layout.specs.Lines.{entryLine, part, entryLines}

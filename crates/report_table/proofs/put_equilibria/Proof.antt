@@ -12,7 +12,7 @@ use Rattle.refusal.specs.Refusal.{Refusal, numberOf, _then_}
 use Rattle.refusal.specs.Told.{values, toldUsize, unless}
 use Rattle.refusal.proofs.Told.{apart}
 use Rattle.written_lists.proofs.Outputs.{room-fits}
-use Rattle.utility.specs.Order.{finite}
+use Rattle.payoff_order.specs.Order.{finite}
 use Rattle.payoff_tables.specs.Table.{tableGame, profilePart}
 use Rattle.payoff_tables.specs.Checks.{tableRefusal}
 use Rattle.payoff_tables.proofs.Checks.{table-law}

@@ -10,8 +10,8 @@ use Rattle.refusal.specs.Refusal.{numberOf}
 use Rattle.refusal.specs.Told.{values, refused, toldOf, toldUsize}
 use Rattle.payoff_tables.specs.Table.{cells}
 use Rattle.payoff_tables.specs.Meaning.{Table}
-use Rattle.words.specs.Words.{Bytes, wordsOf}
-use Rattle.deposit.specs.Deposit.{countsIn, payoffsIn}
+use Rattle.file_words.specs.Words.{Bytes, wordsOf}
+use Rattle.deposit_format.specs.Deposit.{countsIn, payoffsIn}
 use Rattle.outputs.proofs.Put.{puts-same}
 use Rattle.report_input.specs.Input.{maxReportCells, inputTable}
 use Rattle.report_layout.specs.Table.{numberLine, tableReport}

@@ -2,7 +2,7 @@
 use mathlib.Core.Path.{ap}
 use lib.Ieee.{Float, ofBits}
 use lib.ListN.{replicate}
-use Rattle.utility.specs.Order.{finite}
+use Rattle.payoff_order.specs.Order.{finite}
 use Rattle.payoff_tables.specs.Limits.{maxStrategies}
 use Rattle.response_list.specs.Responses.{response}
 use Rattle.response_list.proofs.no_records.Statement.{statement}

@@ -17,12 +17,12 @@ use Rattle.payoff_tables.specs.Answers.{countsAnswer}
 use Rattle.written_lists.specs.Outputs.{over}
 use Rattle.payoff_tables.proofs.Checks.{counts-law}
 use Rattle.written_lists.proofs.Outputs.{over-length}
-use Rattle.words.specs.Words.{Bytes, wordsOf}
-use Rattle.deposit.specs.Deposit.{countsIn, payoffsIn, readRefusal}
-use Rattle.deposit.specs.Answers.{writeAnswer, writeBytes}
-use Rattle.deposit.proofs.Reader.{read-accepted, stages-none}
-use Rattle.deposit.proofs.Tables.{counts-length, payoffs-length}
-use Rattle.deposit.proofs.Back.{table-read}
+use Rattle.file_words.specs.Words.{Bytes, wordsOf}
+use Rattle.deposit_format.specs.Deposit.{countsIn, payoffsIn, readRefusal}
+use Rattle.deposit_format.specs.Answers.{writeAnswer, writeBytes}
+use Rattle.deposit_format.proofs.Reader.{read-accepted, stages-none}
+use Rattle.deposit_format.proofs.Tables.{counts-length, payoffs-length}
+use Rattle.deposit_format.proofs.Back.{table-read}
 use Rattle.round_trips.proofs.Calls.{taken, read-told, not-read, written-of-read}
 use Rattle.round_trips.proofs.read_write.Statement.{statement}
 use Rattle.round_trips.proofs.read_write.Tie as tie

@@ -11,10 +11,10 @@ use Rattle.refusal.specs.Told.{toldUsize}
 use Rattle.payoff_tables.specs.Checks.{tableRefusal}
 use Rattle.written_lists.specs.Outputs.{over}
 use Rattle.written_lists.proofs.Outputs.{over-length}
-use Rattle.deposit.specs.Deposit.{deposit}
+use Rattle.deposit_format.specs.Deposit.{deposit}
 use Rattle.payoff_tables.specs.Meaning.{Doubles}
-use Rattle.deposit.specs.Answers.{readAnswer, readCounts, readPayoffs}
-use Rattle.deposit.proofs.Writer.{write-accepted}
+use Rattle.deposit_format.specs.Answers.{readAnswer, readCounts, readPayoffs}
+use Rattle.deposit_format.proofs.Writer.{write-accepted}
 use Rattle.round_trips.proofs.Calls.{taken, write-told, not-written, read-of-written}
 use Rattle.round_trips.proofs.write_read.Statement.{statement}
 use Rattle.round_trips.proofs.write_read.Tie as tie

@@ -10,7 +10,7 @@ use borrow.Author.Needs.{needs}
 use lib.Dec.{T, ltb}
 use lib.ListN.{length, getD}
 use lib.Ieee.{Float, nan}
-use Rattle.utility.specs.Order.{greater}
+use Rattle.payoff_order.specs.Order.{greater}
 use Rattle.utility.specs.Value.{valueOf}
 use Rattle.payoff_tables.specs.Table.{cellRank}
 use Rattle.payoff_tables.proofs.Game.{cells-greater}

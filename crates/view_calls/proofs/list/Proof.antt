@@ -1,7 +1,7 @@
 -- `view_calls::list` is safe: what stands in a record before a call is finite, by computation. Assumes nothing.
 use lib.Ieee.{ofBits}
 use borrow.Author.Needs.{needs}
-use Rattle.utility.specs.Order.{finite}
+use Rattle.payoff_order.specs.Order.{finite}
 use Rattle.view_calls.proofs.list.Statement.{statement}
 use Rattle.view_calls.proofs.list.Tie as tie
 

@@ -8,10 +8,10 @@ use borrow.Author.Needs.{needs}
 use lib.ListN.{getD}
 use Rattle.refusal.specs.Told.{toldUsize}
 use Rattle.refusal.proofs.Told.{told-values, refused-first}
-use Rattle.words.specs.Words.{wordsOf, payloadAt}
-use Rattle.words.specs.Faults.{dueFault, closingFault}
-use Rattle.words.proofs.Words.{payload-lt, words-length}
-use Rattle.words.proofs.Faults.{wrong-number, followed, closes}
+use Rattle.file_words.specs.Words.{wordsOf, payloadAt}
+use Rattle.file_words.specs.Faults.{dueFault, closingFault}
+use Rattle.file_words.proofs.Words.{payload-lt, words-length}
+use Rattle.file_words.proofs.Faults.{wrong-number, followed, closes}
 use Rattle.words.proofs.closing.Statement.{statement}
 use Rattle.words.proofs.closing.Tie as tie
 

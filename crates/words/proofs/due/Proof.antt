@@ -3,8 +3,8 @@ use mathlib.Core.Path.{refl, sym, ap, _∙_}
 use Prim.Native.Nat.{ℕ, _/_, _^_}
 use native.Mathlib.Omega.{arith}
 use borrow.Author.Needs.{needs}
-use Rattle.words.proofs.Words.{payload-here}
-use Rattle.words.proofs.Faults.{bytes-absent, bytes-other, bytes-due}
+use Rattle.file_words.proofs.Words.{payload-here}
+use Rattle.file_words.proofs.Faults.{bytes-absent, bytes-other, bytes-due}
 use Rattle.words.proofs.due.Statement.{statement}
 use Rattle.words.proofs.due.Tie as tie
 

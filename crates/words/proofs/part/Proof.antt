@@ -4,9 +4,9 @@ use Prim.Native.Nat.{_+_, _*_, _/_, _^_, _<_}
 use native.Mathlib.Omega.{arith}
 use borrow.Author.Needs.{needs}
 use lib.ListN.{length}
-use Rattle.words.specs.Words.{word, payloadAt, wordsOf}
-use Rattle.words.proofs.Words.{words-length, words-at}
-use Rattle.words.proofs.Faults.{due-law, due-word}
+use Rattle.file_words.specs.Words.{word, payloadAt, wordsOf}
+use Rattle.file_words.proofs.Words.{words-length, words-at}
+use Rattle.file_words.proofs.Faults.{due-law, due-word}
 use Rattle.words.proofs.part.Statement.{statement}
 use Rattle.words.proofs.part.Tie as tie
 

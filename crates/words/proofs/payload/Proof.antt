@@ -1,7 +1,7 @@
 -- `words::payload` meets its contract: the remainder by 2^30 is the payload, and past the last word the list of words has 0. Assumes nothing.
 use native.Mathlib.Omega.{arith}
 use borrow.Author.Needs.{needs}
-use Rattle.words.proofs.Words.{payload-here, payload-none}
+use Rattle.file_words.proofs.Words.{payload-here, payload-none}
 use Rattle.words.proofs.payload.Statement.{statement}
 use Rattle.words.proofs.payload.Tie as tie
 

@@ -1,6 +1,6 @@
 -- `words::whole` meets its contract: its test is the definition's. Assumes nothing.
 use mathlib.Core.Path.{refl}
-use Rattle.words.proofs.Faults.{length-law, uneven}
+use Rattle.file_words.proofs.Faults.{length-law, uneven}
 use Rattle.words.proofs.whole.Statement.{statement}
 use Rattle.words.proofs.whole.Tie as tie
 

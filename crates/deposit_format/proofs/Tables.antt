@@ -19,8 +19,8 @@ use Rattle.payoff_tables.specs.Table.{cells}
 use Rattle.payoff_tables.specs.Checks.{countRefusal, countsRefusal}
 use Rattle.payoff_tables.proofs.Offsets.{getD-map, getD-below}
 use Rattle.table.proofs.Space.{Filled}
-use Rattle.words.specs.Words.{payloadAt}
-use Rattle.deposit.specs.Deposit.{playersIn, countsIn, cellPlace, payoffIn, payoffsIn}
+use Rattle.file_words.specs.Words.{payloadAt}
+use Rattle.deposit_format.specs.Deposit.{playersIn, countsIn, cellPlace, payoffIn, payoffsIn}
 
 module _ (ws : List ℕ) where
   pub counts-length : length (countsIn ws) ≡ playersIn ws

@@ -19,11 +19,11 @@ use Rattle.written_lists.specs.Outputs.{writtenOf, over}
 use Rattle.written_lists.proofs.Outputs.{refused-kept}
 use Rattle.payoff_tables.specs.Limits.{maxCells}
 use Rattle.payoff_tables.specs.Table.{cells}
-use Rattle.words.specs.Words.{wordsOf}
-use Rattle.words.specs.Faults.{lengthFault, closingFault}
-use Rattle.deposit.specs.Deposit.{playersIn, countsIn, payoffsIn, openingFault, countFault, cellFault, headFault, restFault, wordsFault, readRefusal, tableOf}
-use Rattle.deposit.specs.Answers.{readAnswer, readCounts, readPayoffs}
-use Rattle.deposit.proofs.Tables.{counts-length}
+use Rattle.file_words.specs.Words.{wordsOf}
+use Rattle.file_words.specs.Faults.{lengthFault, closingFault}
+use Rattle.deposit_format.specs.Deposit.{playersIn, countsIn, payoffsIn, openingFault, countFault, cellFault, headFault, restFault, wordsFault, readRefusal, tableOf}
+use Rattle.deposit_format.specs.Answers.{readAnswer, readCounts, readPayoffs}
+use Rattle.deposit_format.proofs.Tables.{counts-length}
 
 -- the cells from the place after P counts on, n of them, and the closing word
 abbrev pub restFrom : List ℕ → ℕ → ℕ → Refusal

@@ -14,12 +14,12 @@ use Rattle.refusal.specs.Refusal.{when, _then_}
 use Rattle.refusal.specs.declared.NormalFormError.{NormalFormError}
 use Rattle.refusal.specs.declared.NormalFormError.the-variants.{NoPlayers, TooManyPlayers, NonFiniteUtility, WrongPayload}
 use Rattle.refusal.proofs.Refusal.{when-none, then-none}
-use Rattle.utility.specs.Order.{finite}
+use Rattle.payoff_order.specs.Order.{finite}
 use Rattle.payoff_tables.specs.Limits.{maxPlayers}
 use Rattle.payoff_tables.specs.Checks.{countRefusal}
-use Rattle.words.specs.Words.{payloadAt}
-use Rattle.words.specs.Faults.{dueFault}
-use Rattle.deposit.specs.Deposit.{playersIn, payoffIn, openingFault, countFault, cellFault}
+use Rattle.file_words.specs.Words.{payloadAt}
+use Rattle.file_words.specs.Faults.{dueFault}
+use Rattle.deposit_format.specs.Deposit.{playersIn, payoffIn, openingFault, countFault, cellFault}
 
 -- ---- the opening word
 

@@ -11,12 +11,12 @@ use Rattle.refusal.specs.Refusal.{Refusal, when, _then_, each}
 use Rattle.refusal.specs.Told.{Told, unless}
 use Rattle.refusal.specs.declared.NormalFormError.the-variants.{NoPlayers, TooManyPlayers, TooManyCells, NonFiniteUtility, WrongPayload}
 use Rattle.written_lists.specs.Outputs.{shortRefusal}
-use Rattle.utility.specs.Order.{finite}
+use Rattle.payoff_order.specs.Order.{finite}
 use Rattle.payoff_tables.specs.Limits.{maxPlayers, maxCells}
 use Rattle.payoff_tables.specs.Table.{cells}
 use Rattle.payoff_tables.specs.Checks.{countRefusal, tableRefusal}
-use Rattle.words.specs.Words.{payloads, word, payloadAt, bytesOf, closed, wordsOf}
-use Rattle.words.specs.Faults.{lengthFault, dueFault, closingFault}
+use Rattle.file_words.specs.Words.{payloads, word, payloadAt, bytesOf, closed, wordsOf}
+use Rattle.file_words.specs.Faults.{lengthFault, dueFault, closingFault}
 
 -- ---- the kinds of words
 

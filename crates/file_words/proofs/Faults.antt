@@ -12,9 +12,9 @@ use borrow.Author.Tests.{lt-ltb, le-ltb, eq-eqb, ne-eqb, ltb-true, ltb-false, eq
 use Rattle.refusal.specs.Refusal.{when, _then_}
 use Rattle.refusal.specs.declared.NormalFormError.the-variants.{MissingWord, WrongKind, WrongPayload, TrailingWord}
 use Rattle.refusal.proofs.Refusal.{when-none, then-none}
-use Rattle.words.specs.Words.{word, kindOf, payloadOf, payloadAt, wordAt, wordsOf}
-use Rattle.words.specs.Faults.{lengthFault, dueFault, closingFault}
-use Rattle.words.proofs.Words.{kind-word, payload-word, word-parts, words-length, words-at}
+use Rattle.file_words.specs.Words.{word, kindOf, payloadOf, payloadAt, wordAt, wordsOf}
+use Rattle.file_words.specs.Faults.{lengthFault, dueFault, closingFault}
+use Rattle.file_words.proofs.Words.{kind-word, payload-word, word-parts, words-length, words-at}
 
 -- ---- the length
 

@@ -5,7 +5,7 @@ use lib.ListN.{length}
 use lib.Ieee.{Float}
 use Rattle.refusal.specs.Told.{Told, toldOf}
 use Rattle.written_lists.specs.Outputs.{writtenOf, over}
-use Rattle.deposit.specs.Deposit.{fileOf, tableOf}
+use Rattle.deposit_format.specs.Deposit.{fileOf, tableOf}
 
 -- ---- the reader: from the file's bytes, and what the two outputs held
 

@@ -4,8 +4,8 @@ use mathlib.Core.List.{List}
 use Prim.Native.Nat.{ℕ, _+_, _*_, _<_}
 use lib.ListN.{length, getD}
 use lib.Ieee.{Float, nan}
-use Rattle.words.specs.Words.{word}
-use Rattle.deposit.specs.Deposit.{payoffWords}
+use Rattle.file_words.specs.Words.{word}
+use Rattle.deposit_format.specs.Deposit.{payoffWords}
 
 module _ (counts : List ℕ) (payoffs : List Float) where
   -- how many words stand before the closing one

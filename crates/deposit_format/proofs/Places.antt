@@ -9,11 +9,11 @@ use lib.Seq.{ext-getD, getD-append-add}
 use lib.Ieee.{Float, nan}
 use Rattle.game.proofs.Finite.{le-or-lt}
 use Rattle.payoff_tables.proofs.Offsets.{getD-map, getD-flatMap}
-use Rattle.words.specs.Words.{word, closed}
-use Rattle.words.proofs.Words.{closed-length, closed-before, closed-last}
-use Rattle.deposit.specs.Deposit.{payoffWords}
-use Rattle.deposit.specs.Meaning.{wordsBefore, Layout}
-use Rattle.deposit.proofs.Writer.{words-three, body, body-length}
+use Rattle.file_words.specs.Words.{word, closed}
+use Rattle.file_words.proofs.Words.{closed-length, closed-before, closed-last}
+use Rattle.deposit_format.specs.Deposit.{payoffWords}
+use Rattle.deposit_format.specs.Meaning.{wordsBefore, Layout}
+use Rattle.deposit_format.proofs.Writer.{words-three, body, body-length}
 
 module _ (counts : List ℕ) (payoffs : List Float) where
   abbrev cs : List ℕ

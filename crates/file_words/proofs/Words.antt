@@ -12,7 +12,7 @@ use lib.Seq.{ext-getD, getD-append-seam}
 use Rattle.game.specs.Finite.{below}
 use Rattle.game.proofs.Finite.{length-below, length-flatMap, sum-equal}
 use Rattle.payoff_tables.proofs.Offsets.{getD-map, getD-flatMap, getD-below}
-use Rattle.words.specs.Words.{word, kindOf, payloadOf, payloadAt, wordBytes, bytesOf, closed, wordAt, wordsOf, Bytes}
+use Rattle.file_words.specs.Words.{word, kindOf, payloadOf, payloadAt, wordBytes, bytesOf, closed, wordAt, wordsOf, Bytes}
 
 -- ---- a word's kind and payload
 

@@ -14,9 +14,9 @@ use lib.Ieee.{Float, nan, inf, fin, Format, binary64, prec, emax, low, up, down,
 use lib.Ieee.Digits.{size-le}
 use lib.Ieee.Fits.{two, reach, two-le-pos, and-l, and-r, down-pos, kept-lt}
 use borrow.Author.Tests.{lt-ltb, le-ltb, eq-eqb, ne-eqb}
-use Rattle.utility.specs.Order.{number, rank}
-use Rattle.utility.proofs.Rank.{rankOf, rank-bits}
-use Rattle.utility.proofs.Numbers.{Alike, less, same, more, alike, code, Exact, code-mono, code-zero, exact-zero, exact-shift, place, cross-lt, cross-eq, cross-gt, twice-hid}
+use Rattle.payoff_order.specs.Order.{number, rank}
+use Rattle.payoff_order.proofs.Rank.{rankOf, rank-bits}
+use Rattle.payoff_order.proofs.Numbers.{Alike, less, same, more, alike, code, Exact, code-mono, code-zero, exact-zero, exact-shift, place, cross-lt, cross-eq, cross-gt, twice-hid}
 
 -- ---- a finite value that the format holds, in units of the format's smallest value
 abbrev Units : Format → ℕ → ℤ → Type 0

@@ -15,11 +15,11 @@ use Rattle.refusal.proofs.Told.{told-of-refused}
 use Rattle.written_lists.specs.Outputs.{writtenOf, over}
 use Rattle.written_lists.proofs.Outputs.{refused-kept}
 use Rattle.payoff_tables.specs.Checks.{tableRefusal}
-use Rattle.words.specs.Words.{word, closed}
-use Rattle.words.proofs.Words.{bytes-length, closed-length}
-use Rattle.deposit.specs.Deposit.{payoffWords, deposit, fileOf}
-use Rattle.deposit.specs.Answers.{writeAnswer, writeBytes}
-use Rattle.deposit.specs.Meaning.{wordsBefore}
+use Rattle.file_words.specs.Words.{word, closed}
+use Rattle.file_words.proofs.Words.{bytes-length, closed-length}
+use Rattle.deposit_format.specs.Deposit.{payoffWords, deposit, fileOf}
+use Rattle.deposit_format.specs.Answers.{writeAnswer, writeBytes}
+use Rattle.deposit_format.specs.Meaning.{wordsBefore}
 
 pub words-three : (x : Float) → length (payoffWords x) ≡ 3
 unfolding payoffWords

@@ -7,7 +7,7 @@ use lib.Dec.{ltb, eqb}
 use lib.ListN.{length, getD}
 use Rattle.refusal.specs.Refusal.{Refusal, when, _then_}
 use Rattle.refusal.specs.declared.NormalFormError.the-variants.{MissingWord, WrongKind, WrongPayload, TrailingWord}
-use Rattle.words.specs.Words.{closingKind, kindOf, payloadAt}
+use Rattle.file_words.specs.Words.{closingKind, kindOf, payloadAt}
 
 -- byte length no multiple of 4 (17)
 unfoldable pub lengthFault : List ℕ → Refusal

@@ -6,8 +6,8 @@ use native.Mathlib.Omega.{arith}
 use lib.Dec.{T, eqb}
 use lib.Ieee.{nan, inf, binary64, odd, ofFields, ofBits, toBits, nanBits}
 use lib.Ieee.Bits.{toBits-ofBits, nanBits-is}
-use Rattle.utility.specs.Order.{finite}
-use Rattle.utility.proofs.Laws.{finite-no-nan}
+use Rattle.payoff_order.specs.Order.{finite}
+use Rattle.payoff_order.proofs.Laws.{finite-no-nan}
 
 odd-finite : (d : ℕ) (s : Bool) (q k l : ℕ) → finite (odd d s q k l) ≡ true
 unfolding odd finite

@@ -18,24 +18,24 @@ use Rattle.refusal.specs.declared.NormalFormError.the-variants.{TooManyCells}
 use Rattle.refusal.proofs.Refusal.{when-none, then-none, then-last, each-none, none-each}
 use Rattle.refusal.proofs.Told.{told-values}
 use Rattle.written_lists.specs.Outputs.{shortRefusal}
-use Rattle.utility.specs.Order.{finite}
+use Rattle.payoff_order.specs.Order.{finite}
 use Rattle.payoff_tables.specs.Limits.{maxPlayers, maxCells}
 use Rattle.payoff_tables.specs.Table.{cells}
 use Rattle.payoff_tables.specs.Meaning.{Doubles, Table}
 use Rattle.payoff_tables.specs.Checks.{countRefusal, countsRefusal}
 use Rattle.payoff_tables.proofs.Checks.{count-fits, counts-law}
-use Rattle.words.specs.Words.{word, payloadAt, wordsOf, bytesOf, closed, Bytes}
-use Rattle.words.specs.Faults.{lengthFault, dueFault, closingFault}
-use Rattle.words.proofs.Words.{payload-lt, words-back, bytes-back}
-use Rattle.words.proofs.Faults.{length-law, due-word, word-due, closing-law}
-use Rattle.deposit.specs.Deposit.{payoffWords, deposit, playersIn, countsIn, cellPlace, payoffIn, payoffsIn, openingFault, countFault, cellFault, readRefusal, tableOf}
-use Rattle.deposit.specs.Meaning.{wordsBefore, Layout}
-use Rattle.deposit.proofs.Bits.{bits-there, bits-parts, top-part, next-part, last-part}
-use Rattle.deposit.proofs.Faults.{players-is, opening-law, count-fault-law, Cell, cell-law, payoff-bits}
-use Rattle.deposit.proofs.Tables.{counts-length, counts-at, payoffs-length, payoffs-at, counts-left}
-use Rattle.deposit.proofs.Reader.{opened, counted, restFrom, rest, stages, stages-none}
-use Rattle.deposit.proofs.Writer.{body, deposit-length}
-use Rattle.deposit.proofs.Places.{layout, layout-once}
+use Rattle.file_words.specs.Words.{word, payloadAt, wordsOf, bytesOf, closed, Bytes}
+use Rattle.file_words.specs.Faults.{lengthFault, dueFault, closingFault}
+use Rattle.file_words.proofs.Words.{payload-lt, words-back, bytes-back}
+use Rattle.file_words.proofs.Faults.{length-law, due-word, word-due, closing-law}
+use Rattle.deposit_format.specs.Deposit.{payoffWords, deposit, playersIn, countsIn, cellPlace, payoffIn, payoffsIn, openingFault, countFault, cellFault, readRefusal, tableOf}
+use Rattle.deposit_format.specs.Meaning.{wordsBefore, Layout}
+use Rattle.deposit_format.proofs.Bits.{bits-there, bits-parts, top-part, next-part, last-part}
+use Rattle.deposit_format.proofs.Faults.{players-is, opening-law, count-fault-law, Cell, cell-law, payoff-bits}
+use Rattle.deposit_format.proofs.Tables.{counts-length, counts-at, payoffs-length, payoffs-at, counts-left}
+use Rattle.deposit_format.proofs.Reader.{opened, counted, restFrom, rest, stages, stages-none}
+use Rattle.deposit_format.proofs.Writer.{body, deposit-length}
+use Rattle.deposit_format.proofs.Places.{layout, layout-once}
 
 -- ---- reading a table's words
 

@@ -13,7 +13,7 @@ use lib.Ieee.{Float, binary64, fits, toBits}
 use lib.Ieee.Bits.{toBits-lt}
 use borrow.Author.Tests.{lt-ltb, le-ltb}
 use Rattle.game.proofs.Finite.{eqb-T, le-or-lt, same-test}
-use Rattle.utility.specs.Order.{keyOf, key, rank, eqZ}
+use Rattle.payoff_order.specs.Order.{keyOf, key, rank, eqZ}
 
 -- r is z + 2^63
 abbrev Placed : ℤ → ℕ → Type 0

@@ -1,0 +1,1 @@
+// The words of a file and their bytes, and the faults of a word: definitions and their laws, no code.

@@ -1,0 +1,2 @@
+-- The definitions of this crate: the order key, with greater and equal.
+pub mod Order
