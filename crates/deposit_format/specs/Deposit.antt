@@ -1,4 +1,4 @@
--- Document 01, "The deposit file", on the words of `words`: from a table to bytes, and from bytes to a table or a refusal. Deposit is its term.
+-- Document 01, "The deposit file", on the words of `file_words`: from a table to bytes, and from bytes to a table or a refusal. Deposit is its term.
 -- Assumes nothing.
 use mathlib.Core.Bool.{not}
 use mathlib.Core.List.{List, [], _∷_, _++_, map, flatMap}

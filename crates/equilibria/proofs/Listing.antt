@@ -1,5 +1,5 @@
--- A listing's laws: it depends on the marks only by its equilibria, writes all of them where it is not refused, and nothing where it is.
--- Assumes nothing.
+-- A listing's laws: it depends on the marks only by its equilibria, writes all of them where it is
+-- not refused, and nothing where it is. Assumes nothing.
 use mathlib.Core.Path.{_≡_, refl, sym, ap, _∙_}
 use mathlib.Core.List.{List, [], map, flatMap}
 use mathlib.Core.Option.{some}

@@ -1,4 +1,5 @@
--- What the calls of this crate answer and write: the definitions that their contracts name. Assumes nothing.
+-- What the calls on equilibria answer and write: the definitions that their contracts name. Assumes
+-- nothing.
 use mathlib.Core.Bool.{Bool}
 use mathlib.Core.List.{List, map}
 use Prim.Native.Nat.{ℕ, _*_}

@@ -1,1 +1,2 @@
-// The order of payoffs: finite, greater and equal, keys and ranks: definitions and their laws, no code.
+// The order of payoffs, with finite, greater and equal, keys and ranks: definitions and their laws,
+// no code.

@@ -1,4 +1,4 @@
--- Stepping goes from the k-th profile to the next, and from the last to the first: by `nth-cons` of `table`'s Offsets, the first choice stays
+-- Stepping goes from the k-th profile to the next, and from the last to the first: by `nth-cons` of `payoff_tables`'s Offsets, the first choice stays
 -- while the rest has a next one, and goes up by one where the rest begins again. Then what a loop over the players, from the last down,
 -- needs of `step`. Assumes nothing.
 use mathlib.Core.Path.{_≡_, refl, ap, _∙_}

@@ -1,4 +1,5 @@
--- From those that are found to the listing that the contracts name: what is found is the list of equilibria. Assumes nothing.
+-- From those that are found to the listing that the contracts name: what is found is the list of
+-- equilibria. Assumes nothing.
 use mathlib.Core.Path.{_≡_, refl, ap}
 use mathlib.Core.Bool.{Bool, false}
 use mathlib.Core.List.{List, [], _∷_, map}

@@ -1,5 +1,5 @@
--- Lines of document 01's example of a report, computed: each is true by the definitions alone. `games` has the whole report.
--- Assumes nothing.
+-- Lines of a report, computed: each is true by the definitions alone. `games` has document 01's
+-- whole example. Assumes nothing.
 use mathlib.Core.Path.{_≡_, refl}
 use mathlib.Core.List.{[], _∷_, flatMap}
 use lib.Ieee as Ieee

@@ -1,5 +1,5 @@
--- The equilibria over survivors, computed on a table of document 01: the listing reads their marks. `games` has lists of strikes.
--- Assumes nothing.
+-- The equilibria over survivors, computed on a table of document 01: the listing reads their marks.
+-- `games` has lists of strikes. Assumes nothing.
 use mathlib.Core.Path.{_≡_, refl}
 use mathlib.Core.List.{[], _∷_, flatMap}
 use lib.Ieee as Ieee
@@ -22,7 +22,7 @@ abbrev left : Survivors
 left = withoutMark (freshOf pair) (strategy 0 0)
 
 record Computed : Type 0 where
-  -- of the table's equilibria 0 0 and 1 1 the second is left, and outputs of its two choices and payoffs hold it
+  -- of the table's equilibria 0 0 and 1 1 the second is left, and outputs of two elements hold it
   left-told : survivingAnswer pair twice left 2 2 ≡ values 1
   left-choices : survivingChoices pair twice left 2 2 ≡ 1 ∷ 1 ∷ []
   left-utilities : survivingUtilities pair twice left 2 2 ≡ one ∷ one ∷ []

@@ -1,5 +1,6 @@
--- Document 01, "Strikes": what the calls of this crate answer, hand back and write: the definitions that their contracts name. A strike's
--- answer is that of the plain machine of `game`, at the game that the table is and among the survivors' marks. Assumes nothing.
+-- Document 01, "Strikes": what a strike and the survivors' listing answer, hand back and write: the
+-- definitions that their contracts name. A strike's answer is that of the plain machine of `game`, at
+-- the game that the table is and among the survivors' marks. Assumes nothing.
 use mathlib.Core.List.{List}
 use mathlib.Core.Option.{none, some}
 use Prim.Native.Nat.{ℕ}

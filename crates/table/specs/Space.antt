@@ -1,4 +1,5 @@
--- Strategy spaces, which a refused call leaves empty, and the answer of a check with the space beside it. Assumes nothing.
+-- Strategy spaces, which a refused call leaves empty, and the answer of a check with the space
+-- beside it. Assumes nothing.
 use mathlib.Core.List.{List, [], _++_}
 use mathlib.Core.Option.{none, some}
 use Prim.Native.Nat.{ℕ}

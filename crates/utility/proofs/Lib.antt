@@ -1,3 +1,4 @@
--- The laws of this crate's definitions, which its own proofs and its callers' cite: `Made` is for callers.
+-- The laws of this crate's definitions, which its own proofs and its callers' cite: `Made` is for
+-- callers.
 pub mod Finite
 pub mod Made
