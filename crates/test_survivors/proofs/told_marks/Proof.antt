@@ -1,6 +1,6 @@
 -- `test_survivors::told_marks` is safe and ends. The measure is how many places are left. Assumes nothing.
 use Prim.Native.Nat.{_-_}
-use Rattle.table.specs.Limits.{maxMarks}
+use Rattle.payoff_tables.specs.Limits.{maxMarks}
 use borrow.Author.Needs.{needs}
 use Rattle.test_survivors.proofs.told_marks.Statement.{statement}
 use Rattle.test_survivors.proofs.told_marks.Tie as tie

@@ -1,7 +1,7 @@
 -- `test_views::utility` is safe: 0.0 is finite.
 -- Assumes nothing.
 use lib.Ieee.{ofBits}
-use Rattle.utility.specs.Order.{finite}
+use Rattle.payoff_order.specs.Order.{finite}
 use borrow.Author.Needs.{needs}
 use Rattle.test_views.proofs.utility.Statement.{statement}
 use Rattle.test_views.proofs.utility.Tie as tie
