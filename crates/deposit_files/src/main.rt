@@ -1,35 +1,31 @@
-// Deposit files, kept in data/, as the reader tells of them, and tables as the writer does. Standard input has the files' names, a line each:
-// document 01's game, tables at the limits, and for each fault a file that has it and, as far as bytes can, every later fault.
+// Deposit files, kept in data/, cut and damaged at each place, as the reader tells of them. Standard
+// input has the files' names, a line each: document 01's game, tables at the limits, and for each
+// fault a file that has it and, as far as bytes can, every later fault.
 //
-// The lines of a file: what `read` told, with outputs that have room and with none; of an accepted file the table, and what `read` and `write`
-// told with outputs that are exactly long enough and one short. Then what `read` told of the file cut at each length, and with the word at each
-// place damaged: another kind, which is the old one plus 1, 2 or 3, modulo 4, or another payload: one more modulo 2^30, 0, or all ones. Equal
-// answers of neighbours stand together, as `FIRST to LAST`. The lines of a table: what `write` told, and a digest of the bytes.
+// The lines of a file: what `read` told of the file cut at each length, and with the word at each
+// place damaged: another kind, which is the old one plus 1, 2 or 3, modulo 4, or another payload:
+// one more modulo 2^30, 0, or all ones. Equal answers of neighbours stand together, as `FIRST to
+// LAST`. Then a table with the most cells: what `write` told, with a digest of the bytes, and what
+// `read` told of them, whole, cut and damaged, with outputs of several lengths.
 //
-// Each element of an output holds a filling before the call. `wrong` stands in place of an answer where a refused call wrote something, an
-// accepted one wrote past its result, or `write` does not give the very file back that was read.
-use cases::LARGEST;
-use cases::LEAST;
-use cases::bits;
-use cases::fill;
-use cases::first;
-use cases::number;
-use cases::numbers;
-use cases::put;
-use cases::text;
-use libc::STDIN_FILENO;
+// Each element of an output holds a filling before the call. `wrong` stands in place of an answer
+// where a refused call wrote something, an accepted one wrote past its result, or `write` does not
+// give the very file back that was read.
 use refusal::UsizeResult;
-use sample::bits_of;
-use sample::first_line;
 use table::MAX_CELLS;
 use table::MAX_PLAYERS;
-use table::MAX_STRATEGIES;
+use test_lines::LINE;
+use test_lines::bits_of;
+use test_print::number;
+use test_print::numbers;
+use test_print::text;
 use words::PAYLOADS;
 ghost use mathlib.Core.Path.{_≡_};
 ghost use Prim.Native.Nat.{_<_};
 ghost use lib.ListN.{length};
 
-// The room of the outputs that the files are read into, and of the bytes: more than the largest file here needs.
+// The room of the outputs that the files are read into, and of the bytes: more than the largest file
+// here needs.
 const COUNTS: usize = MAX_PLAYERS + 1;
 
 const CELLS: usize = 2050;
@@ -48,13 +44,12 @@ const FLOAT_FILLING: f64 = -1234.5;
 
 const BYTE_FILLING: u8 = 0xa5;
 
-// The most payoffs that are printed, and the most words of a file whose payload becomes ones, since each cell then has runs of its own. Only
+// The most words of a file whose payload becomes ones, since each cell then has runs of its own. Only
 // the largest file has more.
-const PRINTED: usize = 72;
-
 const ONES: usize = 224;
 
-// An answer as one number: a refusal's number, or this and the accepted call's number. Where outputs are not as they have to be, WRONG more.
+// An answer as one number: a refusal's number, or this and the accepted call's number. Where outputs
+// are not as they have to be, WRONG more.
 const ACCEPTED: usize = 100;
 
 const WRONG: usize = 1000000;
@@ -81,6 +76,10 @@ fn least(a: usize, b: usize) -> usize {
 }
 
 // The first n of a list, or all of it where it is shorter.
+fn first(list: &[f64], n: usize) -> &[f64] {
+    if n < list.len() { &list[0..n] } else { list }
+}
+
 fn first_numbers(list: &[usize], n: usize) -> &[usize] {
     if n < list.len() { &list[0..n] } else { list }
 }
@@ -89,9 +88,12 @@ fn first_bytes(list: &[u8], n: usize) -> &[u8] {
     if n < list.len() { &list[0..n] } else { list }
 }
 
-// ---- what is printed
+// ---- answers
 
-// An answer.
+fn answer(n: usize, right: bool) -> usize {
+    if right { n } else { plus(n, WRONG) }
+}
+
 fn told(got: usize) {
     if got < ACCEPTED {
         text(b" refused");
@@ -105,32 +107,6 @@ fn told(got: usize) {
     }
     text(b" wrong");
     number(got - WRONG);
-}
-
-fn all_bits(list: &[f64]) {
-    let mut i = 0;
-    while i < list.len() {
-        bits(list[i]);
-        i += 1;
-    }
-}
-
-// A number below 1000000007 that tells most lists of bytes apart.
-fn digest(list: &[u8]) -> usize {
-    let mut sum: usize = 0;
-    let mut i = 0;
-    while i < list.len() {
-        sum = (sum * 257 + wide(list[i])) % 1000000007;
-        i += 1;
-    }
-    sum
-}
-
-// A byte as a part of a sum.
-fn wide(x: u8) -> usize
-    ensures { λ r. ⌜ r < 256 ⌝ }
-{
-    x as usize
 }
 
 // ---- what outputs hold
@@ -233,55 +209,19 @@ fn large_floats_room() -> [f64; MAX_CELLS + 1]
 
 // ---- the calls
 
-fn answer(n: usize, right: bool) -> usize {
-    if right { n } else { plus(n, WRONG) }
-}
-
-// What the writer told of a table whose file this is, with this output afterwards.
-fn write_answer(r: UsizeResult, file: &[u8], back: &[u8]) -> usize {
-    match r {
-        UsizeResult::Err(e) => answer(e.number() as usize, kept_bytes(back, 0)),
-        UsizeResult::Ok(n) => answer(
-            plus(ACCEPTED, n),
-            (n == file.len()) & starts(file, back) & kept_bytes(back, n),
-        ),
-    }
-}
-
-fn write_into(counts: &[usize], payoffs: &[f64], file: &[u8], back: &mut [u8]) -> usize {
-    let r = deposit_writer::write(counts, payoffs, back);
-    write_answer(r, file, back)
-}
-
-// The same with an output of this length.
-fn write_back(counts: &[usize], payoffs: &[f64], file: &[u8], room: usize) -> usize {
+// Whether a table is written as this very file, and nothing past it.
+fn is_written(counts: &[usize], payoffs: &[f64], file: &[u8]) -> bool {
     let mut back = bytes_room();
-    write_part(counts, payoffs, file, &mut back, room)
-}
-
-fn write_part(
-    counts: &[usize],
-    payoffs: &[f64],
-    file: &[u8],
-    back: &mut [u8],
-    room: usize,
-) -> usize {
-    if back.len() < room {
-        return WRONG;
+    match deposit_writer::write(counts, payoffs, &mut back) {
+        UsizeResult::Err(_) => false,
+        UsizeResult::Ok(n) => (n == file.len()) & starts(file, &back) & kept_bytes(&back, n),
     }
-    write_into(counts, payoffs, file, &mut back[0..room])
 }
 
 // Whether the outputs hold a table whose file this is, and the filling past it.
 fn gives_back(file: &[u8], counts: &[usize], payoffs: &[f64], players: usize) -> bool {
     let cells = written(payoffs);
-    let back = write_back(
-        first_numbers(counts, players),
-        first(payoffs, cells),
-        file,
-        LENGTH,
-    );
-    (back == plus(ACCEPTED, file.len()))
+    is_written(first_numbers(counts, players), first(payoffs, cells), file)
         & kept_numbers(counts, players)
         & kept_floats(payoffs, cells)
 }
@@ -300,26 +240,11 @@ fn read_answer(r: UsizeResult, file: &[u8], counts: &[usize], payoffs: &[f64]) -
     }
 }
 
-fn read_into(file: &[u8], counts: &mut [usize], payoffs: &mut [f64]) -> usize {
-    let r = deposit_reader::read(file, counts, payoffs);
-    read_answer(r, file, counts, payoffs)
-}
-
-// The same with outputs of lengths a and b.
-fn read_as(file: &[u8], a: usize, b: usize) -> usize {
+fn read(file: &[u8]) -> usize {
     let mut counts = [FILLING; COUNTS];
     let mut payoffs = floats_room();
-    read_part(file, &mut counts, &mut payoffs, a, b)
-}
-
-fn read_part(file: &[u8], counts: &mut [usize], payoffs: &mut [f64], a: usize, b: usize) -> usize {
-    if counts.len() < a {
-        return WRONG;
-    }
-    if payoffs.len() < b {
-        return WRONG;
-    }
-    read_into(file, &mut counts[0..a], &mut payoffs[0..b])
+    let r = deposit_reader::read(file, &mut counts, &mut payoffs);
+    read_answer(r, file, &counts, &payoffs)
 }
 
 // ---- damage
@@ -328,15 +253,11 @@ fn read_part(file: &[u8], counts: &mut [usize], payoffs: &mut [f64], a: usize, b
 fn byte_at(file: &[u8], at: usize) -> u32
     ensures { λ r. ⌜ r < 256 ⌝ }
 {
-    if at < file.len() {
-        wide_word(file[at])
-    } else {
-        0
-    }
+    if at < file.len() { wide(file[at]) } else { 0 }
 }
 
 // A byte as a part of a word.
-fn wide_word(x: u8) -> u32
+fn wide(x: u8) -> u32
     ensures { λ r. ⌜ r < 256 ⌝ }
 {
     x as u32
@@ -387,14 +308,15 @@ fn damaged(word: u32, way: usize) -> u32 {
     }
 }
 
-// What the reader tells of a file that is cut at a place, or whose word at a place is damaged; the file is whole again afterwards.
+// What the reader tells of a file that is cut at a place, or whose word at a place is damaged; the
+// file is whole again afterwards.
 fn tried(file: &mut [u8], way: usize, place: usize) -> usize {
     if way == CUT {
-        return read_as(first_bytes(file, place), COUNTS, CELLS);
+        return read(first_bytes(file, place));
     }
     let word = word_at(file, place);
     put_word(file, place, damaged(word, way));
-    let got = read_as(file, COUNTS, CELLS);
+    let got = read(file);
     put_word(file, place, word);
     got
 }
@@ -434,81 +356,6 @@ fn runs(name: &[u8], of: &[u8], file: &mut [u8], way: usize, places: usize) {
 
 // ---- a file
 
-// What the reader tells, with outputs of lengths a and b.
-fn room_told(file: &[u8], a: usize, b: usize) {
-    number(a);
-    number(b);
-    told(read_as(file, a, b));
-    text(b";");
-}
-
-fn rooms(name: &[u8], file: &[u8], players: usize, cells: usize) {
-    text(name);
-    text(b", into outputs of");
-    room_told(file, players, cells);
-    room_told(file, less(players), cells);
-    room_told(file, players, less(cells));
-    text(b"\n");
-}
-
-// What the writer tells, with an output of this length.
-fn output_told(file: &[u8], counts: &[usize], payoffs: &[f64], room: usize) {
-    number(room);
-    told(write_back(counts, payoffs, file, room));
-    text(b";");
-}
-
-fn outputs(name: &[u8], file: &[u8], counts: &[usize], payoffs: &[f64]) {
-    text(name);
-    text(b", written into an output of");
-    output_told(file, counts, payoffs, LENGTH);
-    output_told(file, counts, payoffs, file.len());
-    output_told(file, counts, payoffs, less(file.len()));
-    output_told(file, counts, payoffs, 0);
-    text(b"\n");
-}
-
-fn of_table(name: &[u8], file: &[u8], counts: &[usize], payoffs: &[f64]) {
-    text(name);
-    text(b", table: counts");
-    numbers(counts);
-    text(b",");
-    number(payoffs.len());
-    text(b" payoffs");
-    if payoffs.len() <= PRINTED {
-        text(b":");
-        all_bits(payoffs);
-    }
-    text(b"\n");
-    rooms(name, file, counts.len(), payoffs.len());
-    outputs(name, file, counts, payoffs);
-}
-
-// The lines of an accepted file's table.
-fn of_accepted(name: &[u8], file: &[u8]) {
-    let mut counts = [FILLING; COUNTS];
-    let mut payoffs = floats_room();
-    of_outputs(name, file, &mut counts, &mut payoffs);
-}
-
-fn of_outputs(name: &[u8], file: &[u8], counts: &mut [usize], payoffs: &mut [f64]) {
-    let r = deposit_reader::read(file, counts, payoffs);
-    of_read(r, name, file, counts, payoffs);
-}
-
-fn of_read(r: UsizeResult, name: &[u8], file: &[u8], counts: &[usize], payoffs: &[f64]) {
-    match r {
-        UsizeResult::Err(_) => text(b"refused\n"),
-        UsizeResult::Ok(players) => of_table(
-            name,
-            file,
-            first_numbers(counts, players),
-            first(payoffs, written(payoffs)),
-        ),
-    }
-}
-
-// The runs of a file.
 fn of_kinds(name: &[u8], file: &mut [u8], words: usize) {
     runs(name, b", kind + 1 at", file, 1, words);
     runs(name, b", kind + 2 at", file, 2, words);
@@ -521,34 +368,11 @@ fn of_payloads(name: &[u8], file: &mut [u8], words: usize) {
     runs(name, b", payload of ones at", file, 6, least(words, ONES));
 }
 
-fn of_damage(name: &[u8], file: &mut [u8]) {
+fn of_bytes(name: &[u8], file: &mut [u8]) {
     let words = file.len() / 4;
     runs(name, b", cut at", file, CUT, plus(file.len(), 1));
     of_kinds(name, file, words);
     of_payloads(name, file, words);
-}
-
-fn of_whole(name: &[u8], file: &[u8], whole: usize) {
-    text(name);
-    text(b":");
-    number(file.len());
-    text(b" bytes,");
-    told(whole);
-    if whole < WRONG {
-        text(b", outputs kept");
-    }
-    text(b"; no outputs:");
-    told(read_as(file, 0, 0));
-    text(b"\n");
-}
-
-fn of_bytes(name: &[u8], file: &mut [u8]) {
-    let whole = read_as(file, COUNTS, CELLS);
-    of_whole(name, file, whole);
-    if ACCEPTED <= whole {
-        of_accepted(name, file);
-    }
-    of_damage(name, file);
 }
 
 fn of_file(name: &[u8]) {
@@ -563,20 +387,54 @@ fn of_file(name: &[u8]) {
     of_bytes(name, &mut file[..n]);
 }
 
-// Each file of a list of names, a line each.
-fn of_names(names: &[u8]) {
-    let mut at = 0;
-    while at < names.len() {
-        let name = first_line(&names[at..]);
-        of_file(name);
-        at += name.len();
-        if at < names.len() {
-            at += 1;
+// Each file that standard input names. A proved loop has to end, so it counts its turns down, from a
+// number that no run uses up.
+fn of_names(buffer: &mut [u8]) {
+    let mut input = test_lines::start();
+    let mut turns = u64::MAX;
+    while 0 < turns {
+        turns -= 1;
+        input = test_lines::next(input, buffer);
+        if input.ended {
+            return;
         }
+        of_file(test_lines::line_at(buffer, input));
     }
 }
 
-// ---- the writer's refusals
+// ---- the largest table
+
+// The payoff at a place: steps of 0.1, and extremes.
+fn payoff(at: usize) -> f64 {
+    if at == MAX_CELLS - 1 {
+        return -1.7976931348623157e308;
+    }
+    match at {
+        1 => -0.0,
+        2 => -5e-324,
+        3 => 1.7976931348623157e308,
+        _ => -3276.75 + 0.1 * std::num::nearest_u64_to_f64(at as u64),
+    }
+}
+
+fn make(payoffs: &mut [f64]) {
+    let mut i = 0;
+    while i < payoffs.len() {
+        payoffs[i] = payoff(i);
+        i += 1;
+    }
+}
+
+// A number below 1000000007 that tells most lists of bytes apart.
+fn digest(list: &[u8]) -> usize {
+    let mut sum: usize = 0;
+    let mut i = 0;
+    while i < list.len() {
+        sum = (sum * 257 + wide(list[i]) as usize) % 1000000007;
+        i += 1;
+    }
+    sum
+}
 
 // What the writer told, with a digest of what it wrote.
 fn write_told(r: UsizeResult, back: &[u8]) {
@@ -588,136 +446,36 @@ fn write_told(r: UsizeResult, back: &[u8]) {
             number(digest(first_bytes(back, n)));
         }
     }
+    text(b"\n");
 }
 
-fn write_to(counts: &[usize], payoffs: &[f64], back: &mut [u8]) {
-    let r = deposit_writer::write(counts, payoffs, back);
+fn write_to(payoffs: &[f64], back: &mut [u8]) {
+    let r = deposit_writer::write(&[8, 8, 16, 16], payoffs, back);
     write_told(r, back);
 }
 
 // The same with the first bytes of an output.
-fn write_first(counts: &[usize], payoffs: &[f64], back: &mut [u8], room: usize) {
+fn write_part(payoffs: &[f64], back: &mut [u8], room: usize) {
     if back.len() < room {
         return;
     }
-    text(b", output of");
+    text(b"large, output of");
     number(room);
     text(b":");
-    write_to(counts, payoffs, &mut back[0..room]);
-    text(b"\n");
+    write_to(payoffs, &mut back[0..room]);
 }
 
-fn of_write(name: &[u8], counts: &[usize], payoffs: &[f64], room: usize) {
-    let mut back = bytes_room();
-    text(b"write ");
-    text(name);
-    write_first(counts, payoffs, &mut back, room);
+fn write_whole(payoffs: &[f64], back: &mut [u8; LARGE_ROOM], room: usize) {
+    write_part(payoffs, back, room);
 }
 
-fn write_players(payoffs: &[f64]) {
-    of_write(b"no players", &[], payoffs, 0);
-    of_write(b"one player", &[1], first(payoffs, 1), LENGTH);
-    let most = first(payoffs, MAX_PLAYERS);
-    of_write(b"the most players", &[1; MAX_PLAYERS], most, LENGTH);
-    let over = first(payoffs, MAX_PLAYERS + 1);
-    of_write(b"a player too many", &[1; MAX_PLAYERS + 1], over, LENGTH);
-}
-
-// A table of one player.
-fn of_count(name: &[u8], payoffs: &[f64], count: usize) {
-    of_write(name, &[count], first(payoffs, count), LENGTH);
-}
-
-fn write_strategies(payoffs: &[f64]) {
-    of_count(b"no strategies", payoffs, 0);
-    of_count(b"one strategy", payoffs, 1);
-    of_count(b"the most strategies", payoffs, MAX_STRATEGIES);
-    of_count(b"a strategy too many", payoffs, MAX_STRATEGIES + 1);
-    of_count(b"the largest count", payoffs, usize::MAX);
-}
-
-// A table of counts 8 8 16 and another, for which there is no room, and one of counts 2 3 4.
-fn of_cells(name: &[u8], payoffs: &[f64], last: usize, cells: usize) {
-    of_write(name, &[8, 8, 16, last], first(payoffs, cells), LENGTH);
-}
-
-fn of_small(name: &[u8], payoffs: &[f64], cells: usize, room: usize) {
-    of_write(name, &[2, 3, 4], first(payoffs, cells), room);
-}
-
-fn write_cells(payoffs: &[f64]) {
-    of_cells(b"8 8 16 17", payoffs, 17, MAX_CELLS + 1);
-    of_cells(b"8 8 16 16", payoffs, 16, MAX_CELLS);
-    of_cells(b"8 8 16 16, one less", payoffs, 16, MAX_CELLS - 1);
-    of_cells(b"8 8 16 16, one more", payoffs, 16, MAX_CELLS + 1);
-    of_small(b"2 3 4, one less", payoffs, PRINTED - 1, LENGTH);
-    of_small(b"2 3 4, one more", payoffs, PRINTED + 1, LENGTH);
-    of_small(b"2 3 4, no payoffs", payoffs, 0, LENGTH);
-}
-
-fn write_rooms(payoffs: &[f64]) {
-    of_small(b"2 3 4", payoffs, PRINTED, LENGTH);
-    of_small(b"2 3 4, a byte longer", payoffs, PRINTED, 885);
-    of_small(b"2 3 4, full", payoffs, PRINTED, 884);
-    of_small(b"2 3 4, a byte short", payoffs, PRINTED, 883);
-    of_small(b"2 3 4, a word short", payoffs, PRINTED, 880);
-    of_small(b"2 3 4, no output", payoffs, PRINTED, 0);
-}
-
-// One payoff of counts 2 3 4 is x.
-fn with_value(name: &[u8], payoffs: &mut [f64], at: usize, x: f64) {
-    put(payoffs, at, x);
-    text(b"with");
-    number(at);
-    text(b" ");
-    of_small(name, payoffs, PRINTED, LENGTH);
-    put(payoffs, at, 0.0);
-}
-
-fn write_not_finite(payoffs: &mut [f64], at: usize) {
-    with_value(b"NaN", payoffs, at, 0.0 / 0.0);
-    with_value(b"infinity", payoffs, at, 1.0 / 0.0);
-    with_value(b"-infinity", payoffs, at, -1.0 / 0.0);
-}
-
-fn write_values(payoffs: &mut [f64], at: usize) {
-    write_not_finite(payoffs, at);
-    with_value(b"-0.0", payoffs, at, -0.0);
-    with_value(b"the largest", payoffs, at, LARGEST);
-    with_value(b"-the least", payoffs, at, -LEAST);
-}
-
-// A fault of the table beside the faults that come after it: a NaN is the one payoff, and there is no output.
-fn of_fault(name: &[u8], counts: &[usize]) {
-    text(b"later faults and ");
-    of_write(name, counts, &[0.0 / 0.0], 0);
-}
-
-fn write_faults() {
-    let most = MAX_STRATEGIES;
-    let over = MAX_STRATEGIES + 1;
-    of_fault(b"no players", &[]);
-    of_fault(b"too many players", &[0; MAX_PLAYERS + 1]);
-    of_fault(b"no strategies", &[0, over, most, most]);
-    of_fault(b"too many strategies", &[over, 0, most, most]);
-    of_fault(b"too many cells", &[most; MAX_PLAYERS]);
-    of_fault(b"too few payoffs", &[2, 3, 4]);
-}
-
-// ---- the largest table
-
-fn write_large(payoffs: &[f64], room: usize) {
+fn write(payoffs: &[f64], room: usize) {
     let mut back = [BYTE_FILLING; LARGE_ROOM];
-    write_large_to(payoffs, &mut back, room);
-}
-
-fn write_large_to(payoffs: &[f64], back: &mut [u8; LARGE_ROOM], room: usize) {
-    text(b"large");
-    write_first(&[8, 8, 16, 16], payoffs, back, room);
+    write_whole(payoffs, &mut back, room);
 }
 
 // What the reader told of a large file, and whether the outputs hold this table.
-fn large_told(r: UsizeResult, payoffs: &[f64], counts: &[usize], again: &[f64]) {
+fn read_told(r: UsizeResult, payoffs: &[f64], counts: &[usize], again: &[f64]) {
     match r {
         UsizeResult::Err(e) => told(answer(
             e.number() as usize,
@@ -738,13 +496,13 @@ fn large_told(r: UsizeResult, payoffs: &[f64], counts: &[usize], again: &[f64]) 
     text(b"\n");
 }
 
-fn large_into(file: &[u8], payoffs: &[f64], counts: &mut [usize], again: &mut [f64]) {
+fn read_to(file: &[u8], payoffs: &[f64], counts: &mut [usize], again: &mut [f64]) {
     let r = deposit_reader::read(file, counts, again);
-    large_told(r, payoffs, counts, again);
+    read_told(r, payoffs, counts, again);
 }
 
 // The same with the first elements of outputs.
-fn large_part(
+fn read_part(
     file: &[u8],
     payoffs: &[f64],
     counts: &mut [usize],
@@ -758,40 +516,21 @@ fn large_part(
     if again.len() < b {
         return;
     }
-    large_into(file, payoffs, &mut counts[0..a], &mut again[0..b]);
-}
-
-fn large_name(name: &[u8], length: usize, a: usize, b: usize) {
-    text(b"large, ");
-    text(name);
-    text(b":");
-    number(length);
+    number(file.len());
     text(b" bytes, outputs of");
     number(a);
     number(b);
     text(b":");
+    read_to(file, payoffs, &mut counts[0..a], &mut again[0..b]);
 }
 
 fn read_large(name: &[u8], file: &[u8], payoffs: &[f64], a: usize, b: usize) {
     let mut counts = [FILLING; COUNTS];
     let mut again = large_floats_room();
-    large_name(name, file.len(), a, b);
-    large_part(file, payoffs, &mut counts, &mut again, a, b);
-}
-
-// The table's file is read whole, cut and with a wrong word at its end.
-fn large(payoffs: &[f64]) {
-    write_large(payoffs, LARGE_ROOM);
-    write_large(payoffs, LARGE);
-    write_large(payoffs, LARGE - 1);
-    write_large(payoffs, 0);
-    let mut file = [BYTE_FILLING; LARGE_ROOM];
-    read_written(&mut file, payoffs);
-}
-
-fn read_written(file: &mut [u8; LARGE_ROOM], payoffs: &[f64]) {
-    deposit_writer::write(&[8, 8, 16, 16], payoffs, file);
-    large_files(file, payoffs);
+    text(b"large, ");
+    text(name);
+    text(b":");
+    read_part(file, payoffs, &mut counts, &mut again, a, b);
 }
 
 // The start of the file, with outputs that are exactly long enough.
@@ -799,7 +538,7 @@ fn read_start(name: &[u8], file: &[u8], payoffs: &[f64], n: usize) {
     read_large(name, first_bytes(file, n), payoffs, 4, MAX_CELLS);
 }
 
-fn large_parts(file: &[u8], payoffs: &[f64]) {
+fn read_parts(file: &[u8], payoffs: &[f64]) {
     let whole = first_bytes(file, LARGE);
     read_large(b"longer outputs", whole, payoffs, 5, MAX_CELLS + 1);
     read_large(b"counts short", whole, payoffs, 3, MAX_CELLS);
@@ -810,49 +549,35 @@ fn large_parts(file: &[u8], payoffs: &[f64]) {
     read_start(b"a word short", file, payoffs, LARGE - 4);
 }
 
-fn large_files(file: &mut [u8], payoffs: &[f64]) {
-    large_parts(file, payoffs);
+// The table's file is read whole, cut and with a wrong word at its end.
+fn read_all(file: &mut [u8], payoffs: &[f64]) {
+    read_parts(file, payoffs);
     put_byte(file, LARGE - 1, 0);
     read_start(b"the last byte 0", file, payoffs, LARGE);
 }
 
-// The payoffs that the tables here start with.
-fn made(payoffs: &mut [f64]) {
-    fill(payoffs, -3276.75, 0.1);
-    put(payoffs, 1, -0.0);
-    put(payoffs, 2, -LEAST);
-    put(payoffs, 3, LARGEST);
-    put(payoffs, MAX_CELLS - 1, -LARGEST);
+fn read_written(file: &mut [u8; LARGE_ROOM], payoffs: &[f64]) {
+    deposit_writer::write(&[8, 8, 16, 16], payoffs, file);
+    read_all(file, payoffs);
 }
 
-fn of_tables(payoffs: &[f64]) {
-    write_players(payoffs);
-    write_strategies(payoffs);
-    write_cells(payoffs);
-    write_rooms(payoffs);
-    large(first(payoffs, MAX_CELLS));
-}
-
-fn of_values(payoffs: &mut [f64]) {
-    write_values(payoffs, 0);
-    write_values(payoffs, PRINTED / 2);
-    write_values(payoffs, PRINTED - 1);
-    write_values(payoffs, PRINTED);
+fn of_table(payoffs: &[f64]) {
+    write(payoffs, LARGE_ROOM);
+    write(payoffs, LARGE);
+    write(payoffs, LARGE - 1);
+    write(payoffs, 0);
+    let mut file = [BYTE_FILLING; LARGE_ROOM];
+    read_written(&mut file, payoffs);
 }
 
 fn of_payoffs(payoffs: &mut [f64]) {
-    made(payoffs);
-    of_tables(payoffs);
-    of_values(payoffs);
-    write_faults();
-    put(payoffs, 0, 0.0 / 0.0);
-    of_small(b"a NaN, no output", payoffs, PRINTED, 0);
+    make(payoffs);
+    of_table(first(payoffs, MAX_CELLS));
 }
 
 fn main() {
-    let mut names = io::buffer();
-    let n = io::read_full(STDIN_FILENO, &mut names);
-    of_names(&names[..n]);
+    let mut buffer = [0; LINE];
+    of_names(&mut buffer);
     let mut payoffs = large_floats_room();
     of_payoffs(&mut payoffs);
 }

@@ -1,5 +1,5 @@
--- `deposit_files::digest` is safe and ends. The loop's invariant: the sum is below the number that it is reduced by. The measure is what
--- is left of the list. Assumes nothing.
+-- `deposit_files::digest` is safe and ends. The loop's invariant: the sum is a remainder. The measure is what is
+-- left of the list. Assumes nothing.
 use Prim.Native.Nat.{_-_, _<_}
 use lib.ListN.{length}
 use borrow.Author.Needs.{needs}
@@ -23,6 +23,9 @@ shared-slice-read-wide c = search needs
 
 wide-requires : tie.Need-wide-requires Inv-loop μ-loop
 wide-requires c κs = search needs
+
+cast-sum : tie.Need-cast-sum Inv-loop μ-loop
+cast-sum c = search needs
 
 add-sum : tie.Need-add-sum Inv-loop μ-loop
 add-sum c = search needs
@@ -49,6 +52,7 @@ digest-spec =
     mul-sum
     shared-slice-read-wide
     wide-requires
+    cast-sum
     add-sum
     add-i
     loop-less

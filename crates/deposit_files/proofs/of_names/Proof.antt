@@ -1,40 +1,40 @@
--- `deposit_files::of_names` is safe and ends. The loop's invariant: `at` is at most the length. The measure is what is left of the
--- length. Assumes nothing.
-use Prim.Native.Nat.{_-_, _≤_}
+-- `deposit_files::of_names` is safe and ends. The loop's invariant: the buffer keeps its length. The
+-- measure is the number of turns that are left. Assumes nothing.
+use mathlib.Core.Path.{_≡_}
 use lib.ListN.{length}
 use borrow.Author.Needs.{needs}
 use Rattle.deposit_files.proofs.of_names.Statement.{statement}
 use Rattle.deposit_files.proofs.of_names.Tie as tie
 
 abbrev Inv-loop : tie.InvT-loop
-Inv-loop names at₀ at = at ≤ length names
+Inv-loop buffer₀ input₀ turns₀ buffer input turns = length buffer ≡ length buffer₀
 
 abbrev μ-loop : tie.MeasureT-loop
-μ-loop names at₀ at = length names - at
+μ-loop buffer₀ input₀ turns₀ buffer input turns = turns
+
+start-requires : tie.Need-start-requires Inv-loop μ-loop
+start-requires c κs = search needs
 
 loop-holds : tie.Need-loop-holds Inv-loop μ-loop
 loop-holds c = search needs
 
-sub-first-line : tie.Need-sub-first-line Inv-loop μ-loop
-sub-first-line c = search needs
+sub-turns : tie.Need-sub-turns Inv-loop μ-loop
+sub-turns c = search needs
 
-part-first-line-start : tie.Need-part-first-line-start Inv-loop μ-loop
-part-first-line-start c = search needs
+next-requires : tie.Need-next-requires Inv-loop μ-loop
+next-requires c κs = search needs
 
-part-first-line-end : tie.Need-part-first-line-end Inv-loop μ-loop
-part-first-line-end c = search needs
+same-length : tie.Need-same-length Inv-loop μ-loop
+same-length c = search needs
 
-first-line-requires : tie.Need-first-line-requires Inv-loop μ-loop
-first-line-requires c κs = search needs
+returns : tie.Need-returns Inv-loop μ-loop
+returns c = search needs
+
+line-at-requires : tie.Need-line-at-requires Inv-loop μ-loop
+line-at-requires c κs = search needs
 
 of-file-requires : tie.Need-of-file-requires Inv-loop μ-loop
 of-file-requires c κs = search needs
-
-add-at : tie.Need-add-at Inv-loop μ-loop
-add-at c = search needs
-
-add-at-2 : tie.Need-add-at-2 Inv-loop μ-loop
-add-at-2 c = search needs
 
 loop-less : tie.Need-loop-less Inv-loop μ-loop
 loop-less c = search needs
@@ -42,14 +42,11 @@ loop-less c = search needs
 loop-again : tie.Need-loop-again Inv-loop μ-loop
 loop-again c = search needs
 
-loop-less-2 : tie.Need-loop-less-2 Inv-loop μ-loop
-loop-less-2 c = search needs
+same-length-2 : tie.Need-same-length-2 Inv-loop μ-loop
+same-length-2 c = search needs
 
-loop-again-2 : tie.Need-loop-again-2 Inv-loop μ-loop
-loop-again-2 c = search needs
-
-returns : tie.Need-returns Inv-loop μ-loop
-returns c = search needs
+returns-2 : tie.Need-returns-2 Inv-loop μ-loop
+returns-2 c = search needs
 
 pub of-names-spec : {M : Type 1} → statement M
 of-names-spec =
@@ -57,16 +54,15 @@ of-names-spec =
     (tie.spec
     Inv-loop
     μ-loop
+    start-requires
     loop-holds
-    sub-first-line
-    part-first-line-start
-    part-first-line-end
-    first-line-requires
+    sub-turns
+    next-requires
+    same-length
+    returns
+    line-at-requires
     of-file-requires
-    add-at
-    add-at-2
     loop-less
     loop-again
-    loop-less-2
-    loop-again-2
-    returns)
+    same-length-2
+    returns-2)
