@@ -1,23 +1,30 @@
-// Strikes tables in several orders each, until no survivor is dominated, and compares. The tables and the orders come from a generator with
-// a fixed seed. An order is a list of single strikes, every second of them drawn, so that many name no player, no strategy, a struck one or
-// one that nothing dominates. After each order this must hold:
+// Strikes tables in several orders each, until no survivor is dominated, and compares. The tables
+// and
+// the orders come from a generator with a fixed seed. An order is a list of single strikes, every
+// second of them drawn, so that many name no player, no strategy, a struck one or one that nothing
+// dominates. After each order this must hold:
 //     the survivors are those of the table's first order;
 //     the accepted strikes and the marks together are as many as the strategies of the table;
-//     `surviving_equilibria` returns and writes what `equilibria` does, bits of payoffs included, and after each accepted strike too;
+//     `surviving_equilibria` returns and writes what `equilibria` does, bits of payoffs included,
+// and
+//     after each accepted strike too;
 //     `strikes` on the same list answers, and leaves, the same.
 // Only counts are printed, and the table's number where one of these does not hold.
-use cases::first;
-use cases::number;
-use cases::text;
 use refusal::UsizeResult;
 use survivors::Survivors;
 use table::MAX_MARKS;
 use table::MAX_PLAYERS;
 use table::MAX_STRATEGIES;
+use test_print::number;
+use test_print::text;
 
 const TABLES: usize = 1000;
 
+// How many places the sweep goes on in each order of a table. None has a factor in common with the
+// number of places.
 const ORDERS: usize = 4;
+
+const PACES: [usize; ORDERS] = [1, 5, 7, 11];
 
 // The most players of a table.
 const PLAYERS: usize = 4;
@@ -31,8 +38,8 @@ const CELLS: usize = 324;
 // How many strategies of each player the sweep of an order tries: the most that a player has.
 const WIDTH: usize = 6;
 
-// The most strikes of an order: 4 players have 24 places of the sweep, which are passed in 48 strikes, after the start and after each of
-// 8 accepted strikes.
+// The most strikes of an order: 4 players have 24 places of the sweep, which are passed in 48
+// strikes, after the start and after each of 8 accepted strikes.
 const CALLS: usize = 432;
 
 const SEED: u64 = 88172645463325252;
@@ -87,7 +94,8 @@ fn drawn_counts(players: usize, x: u64) -> [usize; PLAYERS] {
     ]
 }
 
-// The level of a player's choice: the strategies, from one on that the shift gives, have the levels 0, 1 and so on.
+// The level of a player's choice: the strategies, from one on that the shift gives, have the levels
+// 0, 1 and so on.
 fn level(counts: &[usize], profile: &[usize; MAX_PLAYERS], player: usize, shift: usize) -> f64 {
     if MAX_PLAYERS <= player {
         return 0.0;
@@ -102,25 +110,12 @@ fn level(counts: &[usize], profile: &[usize; MAX_PLAYERS], player: usize, shift:
     std::num::nearest_u64_to_f64(modulo(moved, counts[player]) as u64)
 }
 
-// Minus the distance from 0.
-fn minus_distance(d: f64) -> f64 {
-    if d < 0.0 { d } else { -d }
-}
-
-// A zero of either sign where the value is one, and else the value.
-fn with_sign(value: f64, negative: bool) -> f64 {
-    if value == 0.0 {
-        if negative {
-            return -0.0;
-        }
-        return 0.0;
-    }
-    value
-}
-
-// A player's payoff. In kinds 0 to 2 it is drawn among three values, and a level is worth 0, 1 or 2 more than the one below it. In kind 3 it
-// is minus the distance of twice the own level from the next player's: the highest levels are dominated, and once they are struck, those
-// below them.
+// A player's payoff. In kinds 0 to 2 it is drawn among three values, and a level is worth 0, 1 or 2
+// more than the one below it. In kind 3 it is minus the distance of twice the own level from the
+// next
+// player's: the highest levels are dominated, and once they are struck, those below them. A zero
+// has
+// either sign.
 fn drawn_payoff(
     counts: &[usize],
     profile: &[usize; MAX_PLAYERS],
@@ -130,14 +125,23 @@ fn drawn_payoff(
     x: u64,
 ) -> f64 {
     let own = level(counts, profile, player, shift);
+    let mut value = 0.0;
     if kind == 3 {
         let after = modulo(one_more(player), counts.len());
-        let other = level(counts, profile, after, shift);
-        return with_sign(minus_distance(own + own - other), x % 2 == 1);
+        value = minus_size(own + own - level(counts, profile, after, shift));
+    } else {
+        let worth = own * std::num::nearest_u64_to_f64(kind as u64);
+        value = std::num::nearest_u64_to_f64(below(x, 3) as u64) - 2.0 + worth;
     }
-    let worth = own * std::num::nearest_u64_to_f64(kind as u64);
-    let value = std::num::nearest_u64_to_f64(below(x, 3) as u64) - 2.0;
-    with_sign(value + worth, x % 2 == 1)
+    if value != 0.0 {
+        return value;
+    }
+    if x % 2 == 1 { -0.0 } else { 0.0 }
+}
+
+// Minus the distance from 0.
+fn minus_size(d: f64) -> f64 {
+    if d < 0.0 { d } else { -d }
 }
 
 // Draws the payoffs of every profile.
@@ -169,75 +173,101 @@ fn draw_payoffs(
     Drawn { x: x, cells: i }
 }
 
+// The first n of the values, or all of them where there are fewer.
+fn first(values: &[f64], n: usize) -> &[f64] {
+    if n < values.len() {
+        &values[0..n]
+    } else {
+        values
+    }
+}
+
+// ---- the counts that are printed
+
+// What is counted, by its place.
+const COUNTED: usize = 11;
+
+const EACH_TABLE: usize = 0;
+
+const EACH_ORDER: usize = 1;
+
+const ACCEPTED: usize = 2;
+
+const DOMINATORS: usize = 3;
+
+const NO_PLAYER: usize = 4;
+
+const NO_STRATEGY: usize = 5;
+
+const NOT_DOMINATED: usize = 6;
+
+const EQUILIBRIA: usize = 7;
+
+const STRUCK: usize = 8;
+
+const SEVERAL: usize = 9;
+
+const DIFFERENCES: usize = 10;
+
+// What a strike that answered so is counted as. Any other refusal than 8, 14 and 15 is a
+// difference.
+fn place_of(answer: u32) -> usize {
+    match answer {
+        0 => ACCEPTED,
+        8 => NO_PLAYER,
+        14 => NO_STRATEGY,
+        15 => NOT_DOMINATED,
+        _ => DIFFERENCES,
+    }
+}
+
+fn add(tally: &mut [usize; COUNTED], place: usize, n: usize) {
+    if place < COUNTED {
+        tally[place] = std::num::wrapping_add_usize(tally[place], n);
+    }
+}
+
+// Prints the names, with the next count at each `;`.
+fn report(names: &[u8], tally: &[usize; COUNTED]) {
+    let mut place = 0;
+    let mut i = 0;
+    while i < names.len() {
+        if names[i] != b';' {
+            text(&names[i..i + 1]);
+        } else {
+            if place < COUNTED {
+                number(tally[place]);
+            }
+            text(b"\n");
+            place = one_more(place);
+        }
+        i += 1;
+    }
+}
+
 // ---- what is compared
-
-fn same_numbers(a: &[usize], b: &[usize]) -> bool {
-    if a.len() != b.len() {
-        return false;
-    }
-    let mut i = 0;
-    while i < a.len() {
-        if a[i] != b[i] {
-            return false;
-        }
-        i += 1;
-    }
-    true
-}
-
-fn same_codes(a: &[u32], b: &[u32]) -> bool {
-    if a.len() != b.len() {
-        return false;
-    }
-    let mut i = 0;
-    while i < a.len() {
-        if a[i] != b[i] {
-            return false;
-        }
-        i += 1;
-    }
-    true
-}
 
 // Whether two floats have the same bits: they are equal, and zeros of one sign. No NaN is compared.
 fn same_bits(a: f64, b: f64) -> bool {
     (a == b) & (1.0 / a == 1.0 / b)
 }
 
-fn same_floats(a: &[f64], b: &[f64]) -> bool {
-    if a.len() != b.len() {
-        return false;
-    }
+// Whether two listings wrote the same.
+fn same_written(
+    choices: &[usize; CELLS],
+    whole_choices: &[usize; CELLS],
+    utilities: &[f64; CELLS],
+    whole_utilities: &[f64; CELLS],
+) -> bool {
+    let mut same = true;
     let mut i = 0;
-    while i < a.len() {
-        if !same_bits(a[i], b[i]) {
-            return false;
-        }
+    while i < CELLS {
+        same = same
+            & (choices[i] == whole_choices[i])
+            & same_bits(utilities[i], whole_utilities[i]);
         i += 1;
     }
-    true
-}
-
-fn same_marks(a: &[bool; MAX_MARKS], b: &[bool; MAX_MARKS]) -> bool {
-    let mut i = 0;
-    while i < MAX_MARKS {
-        if a[i] != b[i] {
-            return false;
-        }
-        i += 1;
-    }
-    true
-}
-
-fn same_survivors(a: Survivors, b: Survivors) -> bool {
-    if a.players != b.players {
-        return false;
-    }
-    let a_counts = a.counts;
-    let b_counts = b.counts;
-    let a_marks = a.marks;
-    let b_marks = b.marks;
-    same_numbers(&a_counts, &b_counts) & same_marks(&a_marks, &b_marks)
+    same
 }
 
 // What a call told as one number: a refusal is counted down from the largest.
@@ -248,13 +278,13 @@ fn told(r: UsizeResult) -> usize {
     }
 }
 
-// What both listings told, and whether they wrote the same.
-struct Listed {
-    number: usize,
-    same: bool,
-}
-
-fn listings(counts: &[usize], payoffs: &[f64], left: Survivors) -> Listed {
+// Whether both listings told and wrote the same. Counts the equilibria.
+fn listings(
+    counts: &[usize],
+    payoffs: &[f64],
+    left: Survivors,
+    tally: &mut [usize; COUNTED],
+) -> bool {
     let mut choices = [FILLING; CELLS];
     let mut utilities = [FLOAT_FILLING; CELLS];
     let mut whole_choices = [FILLING; CELLS];
@@ -272,18 +302,17 @@ fn listings(counts: &[usize], payoffs: &[f64], left: Survivors) -> Listed {
         &mut whole_choices,
         &mut whole_utilities,
     ));
-    let same = same_numbers(&choices, &whole_choices) & same_floats(&utilities, &whole_utilities);
-    Listed {
-        number: whole,
-        same: same & (n == whole),
-    }
+    add(tally, EQUILIBRIA, whole);
+    (n == whole) & same_written(&choices, &whole_choices, &utilities, &whole_utilities)
 }
 
-// Of a table and survivors: the strategies, the marks, and the players that have a struck strategy.
+// Of a table, survivors and other survivors: the strategies; the survivors' marks, and the players
+// that have a struck strategy; and whether both survivors are the same.
 struct Found {
     strategies: usize,
     marks: usize,
     players: usize,
+    same: bool,
 }
 
 fn is_strategy(counts: &[usize], place: usize) -> bool {
@@ -294,143 +323,53 @@ fn is_strategy(counts: &[usize], place: usize) -> bool {
     place % MAX_STRATEGIES < counts[player]
 }
 
-fn survey(counts: &[usize], left: Survivors) -> Found {
-    let marks = left.marks;
+fn survey(counts: &[usize], a: Survivors, b: Survivors) -> Found {
     let mut found = Found {
         strategies: 0,
         marks: 0,
         players: 0,
+        same: a.players == b.players,
     };
     let mut last = MAX_PLAYERS;
     let mut i = 0;
     while i < MAX_MARKS {
+        let player = i / MAX_STRATEGIES;
+        let marked = a.marks[i];
+        found.same = found.same & (marked == b.marks[i]) & (a.counts[player] == b.counts[player]);
+        if marked {
+            found.marks = one_more(found.marks);
+        }
         if is_strategy(counts, i) {
             found.strategies = one_more(found.strategies);
-            if !marks[i] {
-                if i / MAX_STRATEGIES != last {
-                    last = i / MAX_STRATEGIES;
-                    found.players = one_more(found.players);
-                }
+            if !marked & (player != last) {
+                last = player;
+                found.players = one_more(found.players);
             }
-        }
-        if marks[i] {
-            found.marks = one_more(found.marks);
         }
         i += 1;
     }
     found
 }
 
-// ---- the counts that are printed
-
-struct Tally {
-    tables: usize,
-    orders: usize,
-    accepted: usize,
-    dominators: usize,
-    no_player: usize,
-    no_strategy: usize,
-    not_dominated: usize,
-    equilibria: usize,
-    struck: usize,
-    several: usize,
-    differences: usize,
-}
-
-impl Tally {
-    // With one more strike of this answer: 0 with the dominator, or the refusal's number with 0. Any other but 8, 14 and 15 is a difference.
-    fn with_answer(mut self, answer: u32, dominator: usize) -> Tally {
-        self.dominators = std::num::wrapping_add_usize(self.dominators, dominator);
-        match answer {
-            0 => self.accepted = one_more(self.accepted),
-            8 => self.no_player = one_more(self.no_player),
-            14 => self.no_strategy = one_more(self.no_strategy),
-            15 => self.not_dominated = one_more(self.not_dominated),
-            _ => self.differences = one_more(self.differences),
-        }
-        self
-    }
-
-    // With so many equilibria more compared.
-    fn with_equilibria(mut self, n: usize) -> Tally {
-        self.equilibria = std::num::wrapping_add_usize(self.equilibria, n);
-        self
-    }
-
-    // With one more order.
-    fn with_order(mut self, table: usize, good: bool) -> Tally {
-        self.orders = one_more(self.orders);
-        if !good {
-            self.differences = one_more(self.differences);
-            text(b"table");
-            number(table);
-            text(b" differs\n");
-        }
-        self
-    }
-
-    // With one more table.
-    fn with_table(mut self, found: Found) -> Tally {
-        self.tables = one_more(self.tables);
-        if 0 < found.players {
-            self.struck = one_more(self.struck);
-        }
-        if 1 < found.players {
-            self.several = one_more(self.several);
-        }
-        self
-    }
-
-    fn print(self) {
-        line(b"tables", self.tables);
-        line(b"orders", self.orders);
-        line(b"accepted", self.accepted);
-        line(b"their dominators, summed", self.dominators);
-        line(b"refused 8,", self.no_player);
-        line(b"refused 14,", self.no_strategy);
-        line(b"refused 15,", self.not_dominated);
-        line(b"equilibria compared", self.equilibria);
-        line(b"tables in which something was struck", self.struck);
-        line(b"of several players", self.several);
-        line(b"differences", self.differences);
-    }
-}
-
-fn line(name: &[u8], n: usize) {
-    text(name);
-    number(n);
-    text(b"\n");
-}
-
 // ---- an order
 
-struct Call {
+// How far an order has come: the generator's number, the last strike and what it answered, how many
+// were accepted, the survivors, the place of the sweep, how many strikes of the sweep were refused
+// since the last accepted strike, and whether the listings agreed.
+struct Progress {
+    x: u64,
     player: usize,
     strategy: usize,
+    code: u32,
+    dominator: usize,
+    accepted: usize,
+    left: Survivors,
+    place: usize,
+    quiet: usize,
+    good: bool,
 }
 
-// A drawn call. Often there is no such player or no such strategy, and sometimes either number is a large one.
-fn drawn_call(players: usize, x: u64) -> Call {
-    let mut player = below(x, one_more(players));
-    let mut strategy = below(next(x), SPREAD);
-    if x % 32 == 0 {
-        player = x as usize;
-    }
-    if x % 32 == 1 {
-        strategy = x as usize;
-    }
-    Call { player, strategy }
-}
-
-// A place of the sweep, which has WIDTH strategies of each player.
-fn swept_call(place: usize) -> Call {
-    Call {
-        player: place / WIDTH,
-        strategy: place % WIDTH,
-    }
-}
-
-// How many places the sweep has.
+// How many places the sweep has: WIDTH strategies of each player.
 fn swept_places(players: usize) -> usize {
     if PLAYERS < players {
         0
@@ -439,286 +378,240 @@ fn swept_places(players: usize) -> usize {
     }
 }
 
-// How far an order has come: the last strike and what it answered, how many there were and how many were accepted, the survivors, the
-// generator's number, the place of the sweep, how many strikes of the sweep were refused since the last accepted strike, and whether the
-// listings agreed.
-struct Progress {
-    call: Call,
-    code: u32,
-    dominator: usize,
-    calls: usize,
-    accepted: usize,
-    left: Survivors,
-    x: u64,
-    place: usize,
-    quiet: usize,
-    same: bool,
-    tally: Tally,
+// An order before its first strike.
+fn started(counts: &[usize], payoffs: &[f64], x: u64) -> Progress {
+    let made = survivors::fresh(counts, payoffs);
+    let fresh = made.survivors;
+    Progress {
+        x: x,
+        player: 0,
+        strategy: 0,
+        code: 0,
+        dominator: 0,
+        accepted: 0,
+        left: fresh,
+        place: below(x, swept_places(counts.len())),
+        quiet: 0,
+        good: true,
+    }
 }
 
-// The progress with the next strike chosen. The sweep has every second one, and goes on by `pace` places.
-fn chosen(before: Progress, players: usize, pace: usize) -> Progress {
+// The progress with the next strike chosen: that of a place of the sweep, which goes on by `pace`
+// places, or a drawn one. Often there is no such player or no such strategy, and sometimes either
+// number is a large one.
+fn chosen(before: Progress, players: usize, pace: usize, is_swept: bool) -> Progress {
     let mut p = before;
     let x = next(p.x);
-    let mut call = drawn_call(players, x);
-    if p.calls % 2 == 1 {
-        call = swept_call(p.place);
+    p.x = x;
+    if is_swept {
+        p.player = p.place / WIDTH;
+        p.strategy = p.place % WIDTH;
         p.place = modulo(
             std::num::wrapping_add_usize(p.place, pace),
             swept_places(players),
         );
         p.quiet = one_more(p.quiet);
+        return p;
     }
-    p.x = x;
-    p.call = call;
-    p.calls = one_more(p.calls);
+    p.player = if x % 32 == 0 {
+        x as usize
+    } else {
+        below(x, one_more(players))
+    };
+    p.strategy = if x % 32 == 1 {
+        x as usize
+    } else {
+        below(next(x), SPREAD)
+    };
     p
 }
 
-// The progress with that strike made.
-fn struck(counts: &[usize], payoffs: &[f64], before: Progress) -> Progress {
+// The progress with that strike made and counted and, where it was accepted, the listings compared.
+fn struck(
+    counts: &[usize],
+    payoffs: &[f64],
+    before: Progress,
+    tally: &mut [usize; COUNTED],
+) -> Progress {
     let mut p = before;
-    let call = p.call;
     let left = p.left;
-    let made = survivor_calls::strike(counts, payoffs, left, call.player, call.strategy);
-    let answer = made.answer;
+    let made = survivor_calls::strike(counts, payoffs, left, p.player, p.strategy);
     let handed_back = made.survivors;
     p.left = handed_back;
+    let answer = made.answer;
     match answer {
         UsizeResult::Ok(t) => {
             p.code = 0;
             p.dominator = t;
             p.accepted = one_more(p.accepted);
             p.quiet = 0;
+            p.good = p.good & listings(counts, payoffs, handed_back, tally);
         }
         UsizeResult::Err(e) => {
             p.code = e.number();
             p.dominator = 0;
         }
     }
-    let tally = p.tally;
-    let counted = tally.with_answer(p.code, p.dominator);
-    p.tally = counted;
+    add(tally, place_of(p.code), 1);
+    add(tally, DOMINATORS, p.dominator);
     p
 }
 
-// The progress with the listings compared, where the strike was accepted.
-fn compared(counts: &[usize], payoffs: &[f64], before: Progress) -> Progress {
-    let mut p = before;
-    if p.code == 0 {
-        let left = p.left;
-        let listed = listings(counts, payoffs, left);
-        let tally = p.tally;
-        let counted = tally.with_equilibria(listed.number);
-        p.tally = counted;
-        p.same = p.same & listed.same;
-    }
-    p
-}
-
-// The progress after one strike more.
-fn with_strike(counts: &[usize], payoffs: &[f64], before: Progress, pace: usize) -> Progress {
-    let p = chosen(before, counts.len(), pace);
-    compared(counts, payoffs, struck(counts, payoffs, p))
-}
-
-// Puts a number at a place, if there is such a place.
-fn put(list: &mut [usize], at: usize, n: usize) {
-    if at < list.len() {
-        list[at] = n;
-    }
-}
-
-fn put_code(list: &mut [u32], at: usize, n: u32) {
-    if at < list.len() {
-        list[at] = n;
-    }
-}
-
-// Writes the last strike and what it answered into the lists.
-fn record(
-    p: Progress,
-    at: usize,
-    players: &mut [usize],
-    strategies: &mut [usize],
-    answers: &mut [u32],
-    dominators: &mut [usize],
-) {
-    let call = p.call;
-    put(players, at, call.player);
-    put(strategies, at, call.strategy);
-    put_code(answers, at, p.code);
-    put(dominators, at, p.dominator);
-}
-
-// Strikes until the sweep has been through all of its places since the last accepted strike, and writes the list of strikes, their answers
-// and dominators.
-fn run_order(
-    counts: &[usize],
-    payoffs: &[f64],
-    start: Progress,
-    pace: usize,
-    players: &mut [usize],
-    strategies: &mut [usize],
-    answers: &mut [u32],
-    dominators: &mut [usize],
-) -> Progress {
-    let mut p = start;
+// Whether the answers are the same. Past the list both pairs of outputs hold zeros.
+fn same_answers(
+    codes: &[u32; CALLS],
+    answers: &[u32; CALLS],
+    others: &[usize; CALLS],
+    dominators: &[usize; CALLS],
+) -> bool {
+    let mut same = true;
     let mut i = 0;
     while i < CALLS {
-        if swept_places(counts.len()) <= p.quiet {
-            return p;
-        }
-        p = with_strike(counts, payoffs, p, pace);
-        record(p, i, players, strategies, answers, dominators);
+        same = same & (codes[i] == answers[i]) & (others[i] == dominators[i]);
         i += 1;
     }
-    p
+    same
 }
 
-// Whether `strikes` on the list does what the single strikes did. Past the list both pairs of outputs hold zeros.
+// Whether `strikes` on a list does what the single strikes did.
 fn same_list(
     counts: &[usize],
     payoffs: &[f64],
     players: &[usize],
     strategies: &[usize],
-    answers: &[u32],
-    dominators: &[usize],
+    answers: &[u32; CALLS],
+    dominators: &[usize; CALLS],
     p: Progress,
 ) -> bool {
     let mut codes = [0u32; CALLS];
     let mut others = [0usize; CALLS];
-    let n = p.calls;
-    if players.len() < n {
-        return false;
-    }
-    if strategies.len() < n {
-        return false;
-    }
     let made = strike_lists::strikes(
         counts,
         payoffs,
-        &players[0..n],
-        &strategies[0..n],
+        players,
+        strategies,
         &mut codes,
         &mut others,
     );
     let answer = made.answer;
     let left = made.survivors;
-    let due = p.left;
-    if told(answer) != p.accepted {
-        return false;
-    }
-    same_codes(&codes, answers) & same_numbers(&others, dominators) & same_survivors(left, due)
+    let found = survey(counts, left, p.left);
+    (told(answer) == p.accepted) & found.same & same_answers(&codes, answers, &others, dominators)
 }
 
-// ---- the orders of a table
-
-// How many places the sweep goes on in an order. None has a factor in common with the number of places.
-fn pace(order: usize) -> usize {
-    match order % 4 {
-        0 => 1,
-        1 => 5,
-        2 => 7,
-        _ => 11,
-    }
-}
-
-// The generator's number and the counts so far; after an order also its survivors, how many strikes were accepted, and whether it came to its
-// end, the listings agreed and `strikes` did the same.
-struct Session {
-    x: u64,
-    tally: Tally,
-    left: Survivors,
-    accepted: usize,
-    good: bool,
-}
-
-// An order before its first strike.
-fn started(counts: &[usize], payoffs: &[f64], x: u64, tally: Tally) -> Progress {
-    let made = survivors::fresh(counts, payoffs);
-    let fresh = made.survivors;
-    Progress {
-        call: swept_call(0),
-        code: 0,
-        dominator: 0,
-        calls: 0,
-        accepted: 0,
-        left: fresh,
-        x: x,
-        place: below(x, swept_places(counts.len())),
-        quiet: 0,
-        same: true,
-        tally: tally,
-    }
-}
-
-fn one_order(counts: &[usize], payoffs: &[f64], start: Progress, pace: usize) -> Session {
+// Strikes until the sweep has been through all of its places since the last accepted strike, and
+// has
+// `strikes` do the same.
+fn one_order(
+    counts: &[usize],
+    payoffs: &[f64],
+    start: Progress,
+    pace: usize,
+    tally: &mut [usize; COUNTED],
+) -> Progress {
     let mut players = [0usize; CALLS];
     let mut strategies = [0usize; CALLS];
     let mut answers = [0u32; CALLS];
     let mut dominators = [0usize; CALLS];
-    let p = run_order(
-        counts,
-        payoffs,
-        start,
-        pace,
-        &mut players,
-        &mut strategies,
-        &mut answers,
-        &mut dominators,
-    );
+    let places = swept_places(counts.len());
+    let mut p = start;
+    let mut i = 0;
+    while i < CALLS {
+        if places <= p.quiet {
+            break;
+        }
+        p = struck(
+            counts,
+            payoffs,
+            chosen(p, counts.len(), pace, i % 2 == 1),
+            tally,
+        );
+        players[i] = p.player;
+        strategies[i] = p.strategy;
+        answers[i] = p.code;
+        dominators[i] = p.dominator;
+        i += 1;
+    }
     let same = same_list(
         counts,
         payoffs,
-        &players,
-        &strategies,
+        &players[0..i],
+        &strategies[0..i],
         &answers,
         &dominators,
         p,
     );
+    p.good = p.good & same & (places <= p.quiet);
+    p
+}
+
+// ---- the orders of a table
+
+// Counts an order that has been run, of a table whose first order left `base`.
+fn judge(
+    table: usize,
+    counts: &[usize],
+    payoffs: &[f64],
+    base: Survivors,
+    p: Progress,
+    tally: &mut [usize; COUNTED],
+) {
     let left = p.left;
-    let tally = p.tally;
-    Session {
-        x: p.x,
-        tally: tally,
-        left: left,
-        accepted: p.accepted,
-        good: same & p.same & (swept_places(counts.len()) <= p.quiet),
+    let found = survey(counts, left, base);
+    let summed = std::num::wrapping_add_usize(p.accepted, found.marks) == found.strategies;
+    let listed = listings(counts, payoffs, left, tally);
+    add(tally, EACH_ORDER, 1);
+    if !(p.good & found.same & summed & listed) {
+        add(tally, DIFFERENCES, 1);
+        text(b"table");
+        number(table);
+        text(b" differs\n");
     }
 }
 
-// The counts with an order that has been run, of a table whose first order left `base`.
-fn judged(table: usize, counts: &[usize], payoffs: &[f64], base: Survivors, run: Session) -> Tally {
-    let left = run.left;
-    let found = survey(counts, left);
-    let listed = listings(counts, payoffs, left);
-    let summed = std::num::wrapping_add_usize(run.accepted, found.marks) == found.strategies;
-    let good = run.good & summed & listed.same & same_survivors(base, left);
-    let tally = run.tally;
-    let counted = tally.with_equilibria(listed.number);
-    counted.with_order(table, good)
+// Counts a table, whose first order left `base`.
+fn count_table(counts: &[usize], base: Survivors, tally: &mut [usize; COUNTED]) {
+    let found = survey(counts, base, base);
+    add(tally, EACH_TABLE, 1);
+    if 0 < found.players {
+        add(tally, STRUCK, 1);
+    }
+    if 1 < found.players {
+        add(tally, SEVERAL, 1);
+    }
 }
 
-// Runs all orders of a table.
-fn of_table(table: usize, counts: &[usize], payoffs: &[f64], x: u64, tally: Tally) -> Session {
-    let mut run = one_order(counts, payoffs, started(counts, payoffs, x, tally), pace(0));
-    let base = run.left;
-    let mut order = 1;
+// Runs all orders of a table. The number that the generator came to.
+fn of_table(
+    table: usize,
+    counts: &[usize],
+    payoffs: &[f64],
+    x: u64,
+    tally: &mut [usize; COUNTED],
+) -> u64 {
+    let mut p = started(counts, payoffs, x);
+    let mut base = p.left;
+    let mut order = 0;
     while order < ORDERS {
-        let counted = judged(table, counts, payoffs, base, run);
-        let start = started(counts, payoffs, run.x, counted);
-        run = one_order(counts, payoffs, start, pace(order));
+        p = one_order(
+            counts,
+            payoffs,
+            started(counts, payoffs, p.x),
+            PACES[order],
+            tally,
+        );
+        if order == 0 {
+            base = p.left;
+            count_table(counts, base, tally);
+        }
+        judge(table, counts, payoffs, base, p, tally);
         order += 1;
     }
-    let counted = judged(table, counts, payoffs, base, run);
-    let ended = counted.with_table(survey(counts, base));
-    run.tally = ended;
-    run
+    p.x
 }
 
 // Draws a table and runs its orders. The numbers of players and the kinds take turns.
-fn drawn_table(table: usize, x: u64, tally: Tally) -> Session {
+fn drawn_table(table: usize, x: u64, tally: &mut [usize; COUNTED]) -> u64 {
     let players = table % PLAYERS + 1;
     let all = drawn_counts(players, x);
     let counts = &all[0..players];
@@ -729,26 +622,15 @@ fn drawn_table(table: usize, x: u64, tally: Tally) -> Session {
 }
 
 fn main() {
+    let mut tally = [0; COUNTED];
     let mut x = SEED;
-    let mut tally = Tally {
-        tables: 0,
-        orders: 0,
-        accepted: 0,
-        dominators: 0,
-        no_player: 0,
-        no_strategy: 0,
-        not_dominated: 0,
-        equilibria: 0,
-        struck: 0,
-        several: 0,
-        differences: 0,
-    };
     let mut table = 0;
     while table < TABLES {
-        let run = drawn_table(table, x, tally);
-        x = run.x;
-        tally = run.tally;
+        x = drawn_table(table, x, &mut tally);
         table += 1;
     }
-    tally.print();
+    report(
+        b"tables;orders;accepted;their dominators, summed;refused 8,;refused 14,;refused 15,;equilibria compared;tables in which something was struck;of several players;differences;",
+        &tally,
+    );
 }

@@ -1,14 +1,14 @@
--- `strike_orders::main` is safe and ends. The measure: `table` grows, below 2^64. Assumes nothing.
-use Prim.Native.Nat.{_-_, _^_}
+-- `strike_orders::main` is safe and ends. The measure is how many tables are left. Assumes nothing.
+use Prim.Native.Nat.{_-_}
 use borrow.Author.Needs.{needs}
 use Rattle.strike_orders.proofs.main.Statement.{statement}
 use Rattle.strike_orders.proofs.main.Tie as tie
 
 abbrev Inv-loop : tie.InvT-loop
-Inv-loop x₀ tally₀ table₀ x tally table = Unit {0}
+Inv-loop tally₀ x₀ table₀ t4 tally x table = Unit {0}
 
 abbrev μ-loop : tie.MeasureT-loop
-μ-loop x₀ tally₀ table₀ x tally table = 2 ^ 64 - table
+μ-loop tally₀ x₀ table₀ t4 tally x table = 1000 - table
 
 loop-holds : tie.Need-loop-holds Inv-loop μ-loop
 loop-holds c = search needs
@@ -25,8 +25,11 @@ loop-less c = search needs
 loop-again : tie.Need-loop-again Inv-loop μ-loop
 loop-again c = search needs
 
-print-requires : tie.Need-print-requires Inv-loop μ-loop
-print-requires c κs = search needs
+slice-aggregate-report : tie.Need-slice-aggregate-report Inv-loop μ-loop
+slice-aggregate-report c = search needs
+
+report-requires : tie.Need-report-requires Inv-loop μ-loop
+report-requires c κs = search needs
 
 returns : tie.Need-returns Inv-loop μ-loop
 returns c = search needs
@@ -42,5 +45,6 @@ main-spec =
     add-table
     loop-less
     loop-again
-    print-requires
+    slice-aggregate-report
+    report-requires
     returns)

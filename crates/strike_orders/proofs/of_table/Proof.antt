@@ -1,38 +1,38 @@
--- `strike_orders::of_table` is safe and ends. The measure: `order` grows, below 2^64. Assumes nothing.
-use Prim.Native.Nat.{_-_, _^_}
+-- `strike_orders::of_table` is safe and ends. The measure is how many orders are left. Assumes nothing.
+use Prim.Native.Nat.{_-_}
 use borrow.Author.Needs.{needs}
 use Rattle.strike_orders.proofs.of_table.Statement.{statement}
 use Rattle.strike_orders.proofs.of_table.Tie as tie
 
 abbrev Inv-loop : tie.InvT-loop
-Inv-loop table counts payoffs x run₀ base order₀ run order = Unit {0}
+Inv-loop table counts payoffs x tally₀ p₀ base₀ order₀ tally p base order = Unit {0}
 
 abbrev μ-loop : tie.MeasureT-loop
-μ-loop table counts payoffs x run₀ base order₀ run order = 2 ^ 64 - order
+μ-loop table counts payoffs x tally₀ p₀ base₀ order₀ tally p base order = 4 - order
 
 started-requires : tie.Need-started-requires Inv-loop μ-loop
 started-requires c κs = search needs
 
-pace-requires : tie.Need-pace-requires Inv-loop μ-loop
-pace-requires c κs = search needs
-
-one-order-requires : tie.Need-one-order-requires Inv-loop μ-loop
-one-order-requires c κs = search needs
-
 loop-holds : tie.Need-loop-holds Inv-loop μ-loop
 loop-holds c = search needs
-
-judged-requires : tie.Need-judged-requires Inv-loop μ-loop
-judged-requires c κs = search needs
 
 started-requires-2 : tie.Need-started-requires-2 Inv-loop μ-loop
 started-requires-2 c κs = search needs
 
-pace-requires-2 : tie.Need-pace-requires-2 Inv-loop μ-loop
-pace-requires-2 c κs = search needs
+mul-one-order : tie.Need-mul-one-order Inv-loop μ-loop
+mul-one-order c = search needs
 
-one-order-requires-2 : tie.Need-one-order-requires-2 Inv-loop μ-loop
-one-order-requires-2 c κs = search needs
+array-read-one-order : tie.Need-array-read-one-order Inv-loop μ-loop
+array-read-one-order c = search needs
+
+one-order-requires : tie.Need-one-order-requires Inv-loop μ-loop
+one-order-requires c κs = search needs
+
+count-table-requires : tie.Need-count-table-requires Inv-loop μ-loop
+count-table-requires c κs = search needs
+
+judge-requires : tie.Need-judge-requires Inv-loop μ-loop
+judge-requires c κs = search needs
 
 add-order : tie.Need-add-order Inv-loop μ-loop
 add-order c = search needs
@@ -42,15 +42,6 @@ loop-less c = search needs
 
 loop-again : tie.Need-loop-again Inv-loop μ-loop
 loop-again c = search needs
-
-judged-requires-2 : tie.Need-judged-requires-2 Inv-loop μ-loop
-judged-requires-2 c κs = search needs
-
-survey-requires : tie.Need-survey-requires Inv-loop μ-loop
-survey-requires c κs = search needs
-
-with-table-requires : tie.Need-with-table-requires Inv-loop μ-loop
-with-table-requires c κs = search needs
 
 returns : tie.Need-returns Inv-loop μ-loop
 returns c = search needs
@@ -62,17 +53,14 @@ of-table-spec =
     Inv-loop
     μ-loop
     started-requires
-    pace-requires
-    one-order-requires
     loop-holds
-    judged-requires
     started-requires-2
-    pace-requires-2
-    one-order-requires-2
+    mul-one-order
+    array-read-one-order
+    one-order-requires
+    count-table-requires
+    judge-requires
     add-order
     loop-less
     loop-again
-    judged-requires-2
-    survey-requires
-    with-table-requires
     returns)

@@ -6,28 +6,40 @@ use Rattle.strike_orders.proofs.survey.Statement.{statement}
 use Rattle.strike_orders.proofs.survey.Tie as tie
 
 abbrev Inv-loop : tie.InvT-loop
-Inv-loop counts marks found₀ last₀ i₀ found last i = Unit {0}
+Inv-loop counts a b found₀ last₀ i₀ found last i = Unit {0}
 
 abbrev μ-loop : tie.MeasureT-loop
-μ-loop counts marks found₀ last₀ i₀ found last i = maxMarks - i
+μ-loop counts a b found₀ last₀ i₀ found last i = maxMarks - i
 
 loop-holds : tie.Need-loop-holds Inv-loop μ-loop
 loop-holds c = search needs
 
-is-strategy-requires : tie.Need-is-strategy-requires Inv-loop μ-loop
-is-strategy-requires c κs = search needs
+element-copy-out-marked : tie.Need-element-copy-out-marked Inv-loop μ-loop
+element-copy-out-marked c = search needs
+
+element-copy-out-found : tie.Need-element-copy-out-found Inv-loop μ-loop
+element-copy-out-found c = search needs
+
+mul-found : tie.Need-mul-found Inv-loop μ-loop
+mul-found c = search needs
+
+element-copy-out-found-2 : tie.Need-element-copy-out-found-2 Inv-loop μ-loop
+element-copy-out-found-2 c = search needs
+
+mul-found-2 : tie.Need-mul-found-2 Inv-loop μ-loop
+mul-found-2 c = search needs
+
+element-copy-out-found-3 : tie.Need-element-copy-out-found-3 Inv-loop μ-loop
+element-copy-out-found-3 c = search needs
 
 one-more-requires : tie.Need-one-more-requires Inv-loop μ-loop
 one-more-requires c κs = search needs
 
-array-read-if2 : tie.Need-array-read-if2 Inv-loop μ-loop
-array-read-if2 c = search needs
+is-strategy-requires : tie.Need-is-strategy-requires Inv-loop μ-loop
+is-strategy-requires c κs = search needs
 
 one-more-requires-2 : tie.Need-one-more-requires-2 Inv-loop μ-loop
 one-more-requires-2 c κs = search needs
-
-array-read-if4 : tie.Need-array-read-if4 Inv-loop μ-loop
-array-read-if4 c = search needs
 
 one-more-requires-3 : tie.Need-one-more-requires-3 Inv-loop μ-loop
 one-more-requires-3 c κs = search needs
@@ -51,11 +63,15 @@ survey-spec =
     Inv-loop
     μ-loop
     loop-holds
-    is-strategy-requires
+    element-copy-out-marked
+    element-copy-out-found
+    mul-found
+    element-copy-out-found-2
+    mul-found-2
+    element-copy-out-found-3
     one-more-requires
-    array-read-if2
+    is-strategy-requires
     one-more-requires-2
-    array-read-if4
     one-more-requires-3
     add-i
     loop-less
