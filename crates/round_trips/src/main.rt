@@ -1,12 +1,13 @@
-// Reading and writing undo each other, as statements about the calls that run: the contracts of `write_read` and `read_write` say so for every
-// table, every file and all outputs, and both run on the prisoner's dilemma and on a table with both zeros. One line each: the answer, then what
-// came back.
-use cases::floats;
-use cases::number;
-use cases::numbers;
-use cases::text;
-use cases::told_usize;
+// Reading and writing undo each other, as statements about the calls that run: the contracts of
+// `write_read` and `read_write` say so for every table, every file and all outputs, and both run on
+// the prisoner's dilemma and on a table with both zeros. One line each: the answer, then what came
+// back.
 use refusal::UsizeResult;
+use test_print::floats;
+use test_print::number;
+use test_print::numbers;
+use test_print::text;
+use test_print::told_usize;
 ghost use mathlib.Core.Path.{_≡_};
 ghost use lib.ListN.{length};
 ghost use Rattle.refusal.specs.Told.{toldUsize, toldOf};
@@ -67,52 +68,48 @@ fn all_bytes(bytes: &[u8]) {
     }
 }
 
+// A table, written and read, and its file, read and written.
+fn show(
+    counts: &[usize],
+    payoffs: &[f64],
+    file: &mut [u8],
+    counts_back: &mut [usize],
+    payoffs_back: &mut [f64],
+    file_back: &mut [u8],
+) {
+    told_usize(write_read(counts, payoffs, file, counts_back, payoffs_back));
+    numbers(counts_back);
+    floats(payoffs_back);
+    text(b"\nits file:");
+    told_usize(read_write(file, counts_back, payoffs_back, file_back));
+    all_bytes(file_back);
+    text(b"\n");
+}
+
 // The prisoner's dilemma, and its file of 112 bytes.
 fn dilemma() {
-    let counts = [2usize; 2];
-    let payoffs = [2.0, 2.0, 0.0, 3.0, 3.0, 0.0, 1.0, 1.0];
-    let mut file = [0u8; 112];
-    let mut counts_back = [7usize; 3];
-    let mut payoffs_back = [7.0; 9];
     text(b"dilemma:");
-    told_usize(write_read(
-        &counts,
-        &payoffs,
-        &mut file,
-        &mut counts_back,
-        &mut payoffs_back,
-    ));
-    numbers(&counts_back);
-    floats(&payoffs_back);
-    let mut file_back = [7u8; 113];
-    text(b"\nits file:");
-    told_usize(read_write(&file, &mut counts_back, &mut payoffs_back, &mut file_back));
-    all_bytes(&file_back);
-    text(b"\n");
+    show(
+        &[2, 2],
+        &[2.0, 2.0, 0.0, 3.0, 3.0, 0.0, 1.0, 1.0],
+        &mut [0; 112],
+        &mut [7; 3],
+        &mut [7.0; 9],
+        &mut [7; 113],
+    );
 }
 
 // One player with both zeros, and its file of 36 bytes.
 fn both_zeros() {
-    let counts = [2usize; 1];
-    let payoffs = [-0.0, 0.0];
-    let mut file = [0u8; 36];
-    let mut counts_back = [7usize; 2];
-    let mut payoffs_back = [7.0; 3];
     text(b"both zeros:");
-    told_usize(write_read(
-        &counts,
-        &payoffs,
-        &mut file,
-        &mut counts_back,
-        &mut payoffs_back,
-    ));
-    numbers(&counts_back);
-    floats(&payoffs_back);
-    let mut file_back = [7u8; 37];
-    text(b"\nits file:");
-    told_usize(read_write(&file, &mut counts_back, &mut payoffs_back, &mut file_back));
-    all_bytes(&file_back);
-    text(b"\n");
+    show(
+        &[2],
+        &[-0.0, 0.0],
+        &mut [0; 36],
+        &mut [7; 2],
+        &mut [7.0; 3],
+        &mut [7; 37],
+    );
 }
 
 fn main() {

@@ -2,16 +2,22 @@
 // makes fresh survivors, strikes each call of a list on the survivors that the last one handed
 // back, lists the equilibria over these, and then those of the whole table; its contract says that
 // both listings answered and wrote the same, for every table, list and outputs of equal lengths.
-// `strike_twice` strikes once more what it struck. Both run on tables of document 01 and others. A
-// line for each table: how many strikes were accepted, and each listing's answer, choices and
-// payoffs, with 7 where nothing was written.
-use cases::floats;
-use cases::number;
-use cases::numbers;
-use cases::text;
-use cases::told_usize;
+// `strike_twice` strikes once more what it struck. Both are calls of the lines of standard input,
+// which have document 01's games and others, in the form of docs/TESTING.md:
+//     strike_and_list, COUNTS, PAYOFFS, players, strategies, and four outputs: how many strikes were
+//     accepted, and each listing's answer, choices and payoffs, as they stand in its outputs;
+//     strike_twice, COUNTS, PAYOFFS, player, strategy: both answers, from fresh survivors.
 use refusal::UsizeResult;
 use survivors::Survivors;
+use test_lines::Case;
+use test_lines::LINE;
+use test_lines::read_floats;
+use test_lines::read_numbers;
+use test_print::floats;
+use test_print::number;
+use test_print::numbers;
+use test_print::text;
+use test_print::told_usize;
 ghost use mathlib.Core.Path.{_≡_};
 ghost use mathlib.Core.Bool.{cond};
 ghost use mathlib.Core.Option.{none};
@@ -26,6 +32,9 @@ ghost use Rattle.equilibria.specs.Answers.{equilibriaAnswer, equilibriaChoices,
 ghost use Rattle.survivors.specs.Survivors.{freshOf, noSurvivors, markCount};
 ghost use Rattle.strikes.specs.Answers.{strikeAnswer, strikeLeaves, survivingAnswer, survivingChoices, survivingUtilities};
 ghost use Rattle.strike_chains.specs.Answers.{callsOf, chainFrom, acceptedOf};
+
+// The most elements of a list of a line.
+const ROOM: usize = 24;
 
 // How many strikes were accepted, and the survivors that the last one handed back.
 struct Struck {
@@ -164,17 +173,24 @@ fn strike_twice(
     }
 }
 
-// The accepted strikes, and both listings into the given outputs, which have equal lengths.
+// The accepted strikes, and both listings into the outputs of a line.
 fn show(
+    line: &[u8],
+    r: Case,
     counts: &[usize],
     payoffs: &[f64],
     players: &[usize],
     strategies: &[usize],
-    left_choices: &mut [usize],
-    left_utilities: &mut [f64],
-    choices: &mut [usize],
-    utilities: &mut [f64],
 ) {
+    let mut words = [0; ROOM];
+    let mut d = [0; ROOM];
+    let mut e = [0; ROOM];
+    let mut y = [0.0; ROOM];
+    let mut z = [0.0; ROOM];
+    let left_choices = read_numbers(line, r.d, &mut d);
+    let left_utilities = read_floats(line, r.y, &mut words, &mut y);
+    let choices = read_numbers(line, r.e, &mut e);
+    let utilities = read_floats(line, r.z, &mut words, &mut z);
     let listed = strike_and_list(
         counts,
         payoffs,
@@ -194,144 +210,80 @@ fn show(
     told_usize(whole);
     numbers(choices);
     floats(utilities);
-    text(b"\n");
 }
 
-// A line, with outputs of 8 places each.
-fn line(name: &[u8], counts: &[usize], payoffs: &[f64], players: &[usize], strategies: &[usize]) {
-    let mut left_choices = [7usize; 8];
-    let mut left_utilities = [7.0; 8];
-    let mut choices = [7usize; 8];
-    let mut utilities = [7.0; 8];
-    text(name);
-    show(
-        counts,
-        payoffs,
-        players,
-        strategies,
-        &mut left_choices,
-        &mut left_utilities,
-        &mut choices,
-        &mut utilities,
-    );
-}
-
-// A line, with outputs of 7 places each.
-fn short_line(name: &[u8], counts: &[usize], payoffs: &[f64]) {
-    let mut left_choices = [7usize; 7];
-    let mut left_utilities = [7.0; 7];
-    let mut choices = [7usize; 7];
-    let mut utilities = [7.0; 7];
-    text(name);
-    show(
-        counts,
-        payoffs,
-        &[0],
-        &[0],
-        &mut left_choices,
-        &mut left_utilities,
-        &mut choices,
-        &mut utilities,
-    );
-}
-
-// Document 01's games: each strategy that is dominated struck, and some that are not.
-fn games() {
-    let two = [2usize; 2];
-    let one = [3usize; 1];
-    let pair = [2usize; 1];
-    let dilemma = [2.0, 2.0, 0.0, 3.0, 3.0, 0.0, 1.0, 1.0];
-    line(b"dilemma:", &two, &dilemma, &[0, 1, 1], &[0, 0, 0]);
-    line(b"dilemma, no strikes:", &two, &dilemma, &[], &[]);
-    let pennies = [1.0, -1.0, -1.0, 1.0, -1.0, 1.0, 1.0, -1.0];
-    line(b"pennies:", &two, &pennies, &[0, 1], &[0, 1]);
-    let meeting = [2.0, 2.0, 0.0, 0.0, 0.0, 0.0, 1.0, 1.0];
-    line(b"meeting:", &two, &meeting, &[0, 1], &[1, 1]);
-    let tied = [1.0, 5.0, 5.0];
-    line(b"one player:", &one, &tied, &[0, 0], &[0, 1]);
-    let zeros = [-0.0, 0.0];
-    line(b"both zeros:", &pair, &zeros, &[0, 0], &[0, 1]);
-    let later = [1.0, 1.0, 0.0, 0.0, 0.0, 1.0, 1.0, 0.0];
-    line(b"after another:", &two, &later, &[0, 1, 0], &[1, 1, 1]);
-}
-
-// Other tables, and numbers that name no player or strategy.
-fn others() {
-    let two = [2usize; 2];
-    let one = [3usize; 1];
-    let wide = [2usize, 3];
-    let climb = [1.0, 2.0, 3.0];
-    line(b"climb:", &one, &climb, &[0, 0, 0], &[0, 1, 2]);
-    let turns = [1.0, 0.0, 1.0, 2.0, 0.0, 1.0, 0.0, 3.0, 0.0, 1.0, 2.0, 0.0];
-    line(b"in turns:", &wide, &turns, &[1, 0, 1], &[2, 1, 0]);
-    let equal = [0.0; 8];
-    line(b"all equal:", &two, &equal, &[0], &[0]);
-    short_line(b"one place short:", &two, &equal);
-    line(
-        b"no such names:",
-        &two,
-        &equal,
-        &[2, 0, usize::MAX],
-        &[0, 2, usize::MAX, 0],
-    );
-}
-
-// Three players with 2 strategies each, each of whom is paid its own choice.
-fn three_players() {
-    let three = [2usize; 3];
-    let mut own = [0.0; 24];
-    // the cells of a player that chooses 1
-    own[5] = 1.0;
-    own[7] = 1.0;
-    own[10] = 1.0;
-    own[11] = 1.0;
-    own[12] = 1.0;
-    own[15] = 1.0;
-    own[17] = 1.0;
-    own[18] = 1.0;
-    own[19] = 1.0;
-    own[21] = 1.0;
-    own[22] = 1.0;
-    own[23] = 1.0;
-    line(
-        b"three players:",
-        &three,
-        &own,
-        &[2, 2, 1, 0],
-        &[0, 0, 0, 0],
-    );
-}
-
-// Tables that are refused.
-fn refused_tables() {
-    let two = [2usize; 2];
-    let some = [0.0, 1.0 / 0.0, 0.0, 0.0, 0.0, 0.0, 0.0, 0.0];
-    line(b"no players:", &[], &[], &[0], &[0]);
-    line(b"too few payoffs:", &two, &some[..7], &[0], &[0]);
-    line(b"infinite:", &two, &some, &[0], &[0]);
-}
-
-// A line: a strike from fresh survivors, and the same again.
-fn again(name: &[u8], counts: &[usize], payoffs: &[f64], player: usize, strategy: usize) {
+// A strike from fresh survivors, and the same again.
+fn again(counts: &[usize], payoffs: &[f64], player: usize, strategy: usize) {
     let made = survivors::fresh(counts, payoffs);
     let all = made.survivors;
     let told = strike_twice(counts, payoffs, all, player, strategy);
-    text(name);
     let first = told.first;
     told_usize(first);
     let second = told.second;
     told_usize(second);
+}
+
+// Makes the call of a case.
+fn make(
+    line: &[u8],
+    r: Case,
+    counts: &[usize],
+    payoffs: &[f64],
+    players: &[usize],
+    strategies: &[usize],
+) {
+    let call = r.call;
+    match call {
+        0 => show(line, r, counts, payoffs, players, strategies),
+        1 => again(counts, payoffs, r.first, r.second),
+        _ => text(b" cannot be read"),
+    }
+}
+
+// The same, with the lists that both calls take or the first.
+fn make_of(line: &[u8], r: Case) {
+    let mut words = [0; ROOM];
+    let mut a = [0; ROOM];
+    let mut b = [0; ROOM];
+    let mut c = [0; ROOM];
+    let mut x = [0.0; ROOM];
+    let counts = read_numbers(line, r.a, &mut a);
+    let payoffs = read_floats(line, r.x, &mut words, &mut x);
+    let players = read_numbers(line, r.b, &mut b);
+    let strategies = read_numbers(line, r.c, &mut c);
+    make(line, r, counts, payoffs, players, strategies);
+}
+
+// A line: its name, and what its call tells.
+fn run(line: &[u8]) {
+    let mut words = [0; ROOM];
+    text(test_lines::name(line));
+    text(b":");
+    let r = test_lines::read_case(
+        line,
+        b"strike_and_list lafxlblcldfylefz, strike_twice lafxn1n2",
+        &mut words,
+    );
+    make_of(line, r);
     text(b"\n");
 }
 
+// Every line. A proved loop has to end, so it counts its turns down, from a number that no run uses
+// up.
+fn run_all(buffer: &mut [u8]) {
+    let mut input = test_lines::start();
+    let mut turns = u64::MAX;
+    while 0 < turns {
+        turns -= 1;
+        input = test_lines::next(input, buffer);
+        if input.ended {
+            return;
+        }
+        run(test_lines::line_at(buffer, input));
+    }
+}
+
 fn main() {
-    games();
-    others();
-    three_players();
-    refused_tables();
-    let two = [2usize; 2];
-    let dilemma = [2.0, 2.0, 0.0, 3.0, 3.0, 0.0, 1.0, 1.0];
-    again(b"dilemma, again:", &two, &dilemma, 0, 0);
-    again(b"dilemma, not dominated:", &two, &dilemma, 1, 1);
-    again(b"no such player:", &two, &dilemma, 2, 0);
+    let mut buffer = [0; LINE];
+    run_all(&mut buffer);
 }
