@@ -1,2 +1,0 @@
--- The definitions of this crate: where a place lies.
-pub mod Places
