@@ -43,7 +43,8 @@ fn table_of(k: usize) -> [f64; 8] {
     ]
 }
 
-// Counts that the table of k has the number n, and keeps k where n came fewer than four times before.
+// Counts that the table of k has the number n, and keeps k where n came fewer than four times
+// before.
 fn note(came: &mut [usize; KEYS], keys: &mut [usize; KEYS * EACH], n: usize, k: usize) {
     if n < KEYS {
         let times = came[n];

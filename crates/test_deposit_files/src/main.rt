@@ -1,6 +1,6 @@
-// Deposit files, kept in data/, cut and damaged at each place, as the reader tells of them. Standard
-// input has the files' names, a line each: document 01's game, tables at the limits, and for each
-// fault a file that has it and, as far as bytes can, every later fault.
+// Deposit files, kept in data/, cut and damaged at each place, as the reader tells of them.
+// Standard input has the files' names, a line each: document 01's game, tables at the limits, and
+// for each fault a file that has it and, as far as bytes can, every later fault.
 //
 // The lines of a file: what `read` told of the file cut at each length, and with the word at each
 // place damaged: another kind, which is the old one plus 1, 2 or 3, modulo 4, or another payload:
@@ -24,8 +24,8 @@ ghost use mathlib.Core.Path.{_≡_};
 ghost use Prim.Native.Nat.{_<_};
 ghost use lib.ListN.{length};
 
-// The room of the outputs that the files are read into, and of the bytes: more than the largest file
-// here needs.
+// The room of the outputs that the files are read into, and of the bytes: more than the largest
+// file here needs.
 const COUNTS: usize = MAX_PLAYERS + 1;
 
 const CELLS: usize = 2050;
@@ -44,12 +44,12 @@ const FLOAT_FILLING: f64 = -1234.5;
 
 const BYTE_FILLING: u8 = 0xa5;
 
-// The most words of a file whose payload becomes ones, since each cell then has runs of its own. Only
-// the largest file has more.
+// The most words of a file whose payload becomes ones, since each cell then has runs of its own.
+// Only the largest file has more.
 const ONES: usize = 224;
 
-// An answer as one number: a refusal's number, or this and the accepted call's number. Where outputs
-// are not as they have to be, WRONG more.
+// An answer as one number: a refusal's number, or this and the accepted call's number. Where
+// outputs are not as they have to be, WRONG more.
 const ACCEPTED: usize = 100;
 
 const WRONG: usize = 1000000;
@@ -387,8 +387,8 @@ fn of_file(name: &[u8]) {
     of_bytes(name, &mut file[..n]);
 }
 
-// Each file that standard input names. A proved loop has to end, so it counts its turns down, from a
-// number that no run uses up.
+// Each file that standard input names. A proved loop has to end, so it counts its turns down, from
+// a number that no run uses up.
 fn of_names(buffer: &mut [u8]) {
     let mut input = test_lines::start();
     let mut turns = u64::MAX;

@@ -579,8 +579,8 @@ fn read_list(s: &[u8], floats: bool, out: &mut [usize]) -> usize {
 // ---- a case
 
 // A line's call, by its place in a program's table of calls, or UNREADABLE; its single numbers and
-// floats; and the fields with the lists for the program's buffers, a to e for numbers and x to z for
-// floats.
+// floats; and the fields with the lists for the program's buffers, a to e for numbers and x to z
+// for floats.
 pub struct Case {
     pub call: usize,
     pub first: usize,
@@ -621,11 +621,11 @@ fn no_case(call: usize) -> Case {
 }
 
 // A table of calls has a call and its arguments after each other, with `,` between the calls. An
-// argument is two bytes, its kind and where it goes to: a buffer, or one of the single numbers 1 to 3
-// or floats 4 and 5. The kinds are `n` a number, `r` a float, `l` numbers, `f` floats, `b` bytes, `w`
-// 32-bit words, `e` a number for each place of a player, `m` a mark for each place of a strategy, `t`
-// four bytes, a 2 by 2 table; `s` numbers and `u` finite floats, one for each strategy that a player
-// may have.
+// argument is two bytes, its kind and where it goes to: a buffer, or one of the single numbers 1 to
+// 3 or floats 4 and 5. The kinds are `n` a number, `r` a float, `l` numbers, `f` floats, `b` bytes,
+// `w` 32-bit words, `e` a number for each place of a player, `m` a mark for each place of a
+// strategy, `t` four bytes, a 2 by 2 table; `s` numbers and `u` finite floats, one for each
+// strategy that a player may have.
 
 // How long a list of a kind has to be, or 0 where it may have any length.
 fn length_of(kind: u8) -> usize {

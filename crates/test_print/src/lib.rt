@@ -38,8 +38,8 @@ pub fn bits(x: f64) {
     }
 }
 
-// A float that is not negative, no -0.0 and no NaN: a whole number in decimal, infinity by its name,
-// and any other by its bits.
+// A float that is not negative, no -0.0 and no NaN: a whole number in decimal, infinity by its
+// name, and any other by its bits.
 fn magnitude(x: f64) {
     if x == 1.0 / 0.0 {
         text(b"infinity");

@@ -1,4 +1,5 @@
--- What each of two calls tells the next one. Reading what was written is `read-back`, and writing what was read `write-back`, of `deposit`.
+-- What each of two calls tells the next one. Reading what was written is `read-back`, and writing
+-- what was read `write-back`, of `deposit`.
 -- Assumes nothing.
 use mathlib.Core.Path.{_≡_, refl, sym, ap, _∙_}
 use mathlib.Core.List.{List}

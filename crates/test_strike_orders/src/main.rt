@@ -128,7 +128,8 @@ fn drawn_payoff(
     let mut value = 0.0;
     if kind == 3 {
         let after = modulo(one_more(player), counts.len());
-        value = minus_size(own + own - level(counts, profile, after, shift));
+        let far = own + own - level(counts, profile, after, shift);
+        value = if far < 0.0 { far } else { -far };
     } else {
         let worth = own * std::num::nearest_u64_to_f64(kind as u64);
         value = std::num::nearest_u64_to_f64(below(x, 3) as u64) - 2.0 + worth;
@@ -137,11 +138,6 @@ fn drawn_payoff(
         return value;
     }
     if x % 2 == 1 { -0.0 } else { 0.0 }
-}
-
-// Minus the distance from 0.
-fn minus_size(d: f64) -> f64 {
-    if d < 0.0 { d } else { -d }
 }
 
 // Draws the payoffs of every profile.
@@ -336,15 +332,12 @@ fn survey(counts: &[usize], a: Survivors, b: Survivors) -> Found {
         let player = i / MAX_STRATEGIES;
         let marked = a.marks[i];
         found.same = found.same & (marked == b.marks[i]) & (a.counts[player] == b.counts[player]);
-        if marked {
-            found.marks = one_more(found.marks);
-        }
-        if is_strategy(counts, i) {
-            found.strategies = one_more(found.strategies);
-            if !marked & (player != last) {
-                last = player;
-                found.players = one_more(found.players);
-            }
+        found.marks = std::num::wrapping_add_usize(found.marks, marked as usize);
+        let is = is_strategy(counts, i);
+        found.strategies = std::num::wrapping_add_usize(found.strategies, is as usize);
+        if is & !marked & (player != last) {
+            last = player;
+            found.players = one_more(found.players);
         }
         i += 1;
     }
@@ -369,17 +362,8 @@ struct Progress {
     good: bool,
 }
 
-// How many places the sweep has: WIDTH strategies of each player.
-fn swept_places(players: usize) -> usize {
-    if PLAYERS < players {
-        0
-    } else {
-        WIDTH * players
-    }
-}
-
 // An order before its first strike.
-fn started(counts: &[usize], payoffs: &[f64], x: u64) -> Progress {
+fn started(counts: &[usize], payoffs: &[f64], x: u64, places: usize) -> Progress {
     let made = survivors::fresh(counts, payoffs);
     let fresh = made.survivors;
     Progress {
@@ -390,7 +374,7 @@ fn started(counts: &[usize], payoffs: &[f64], x: u64) -> Progress {
         dominator: 0,
         accepted: 0,
         left: fresh,
-        place: below(x, swept_places(counts.len())),
+        place: below(x, places),
         quiet: 0,
         good: true,
     }
@@ -399,17 +383,20 @@ fn started(counts: &[usize], payoffs: &[f64], x: u64) -> Progress {
 // The progress with the next strike chosen: that of a place of the sweep, which goes on by `pace`
 // places, or a drawn one. Often there is no such player or no such strategy, and sometimes either
 // number is a large one.
-fn chosen(before: Progress, players: usize, pace: usize, is_swept: bool) -> Progress {
+fn chosen(
+    before: Progress,
+    players: usize,
+    places: usize,
+    pace: usize,
+    is_swept: bool,
+) -> Progress {
     let mut p = before;
     let x = next(p.x);
     p.x = x;
     if is_swept {
         p.player = p.place / WIDTH;
         p.strategy = p.place % WIDTH;
-        p.place = modulo(
-            std::num::wrapping_add_usize(p.place, pace),
-            swept_places(players),
-        );
+        p.place = modulo(std::num::wrapping_add_usize(p.place, pace), places);
         p.quiet = one_more(p.quiet);
         return p;
     }
@@ -506,6 +493,7 @@ fn one_order(
     counts: &[usize],
     payoffs: &[f64],
     start: Progress,
+    places: usize,
     pace: usize,
     tally: &mut [usize; COUNTED],
 ) -> Progress {
@@ -513,7 +501,6 @@ fn one_order(
     let mut strategies = [0usize; CALLS];
     let mut answers = [0u32; CALLS];
     let mut dominators = [0usize; CALLS];
-    let places = swept_places(counts.len());
     let mut p = start;
     let mut i = 0;
     while i < CALLS {
@@ -523,7 +510,7 @@ fn one_order(
         p = struck(
             counts,
             payoffs,
-            chosen(p, counts.len(), pace, i % 2 == 1),
+            chosen(p, counts.len(), places, pace, i % 2 == 1),
             tally,
         );
         players[i] = p.player;
@@ -581,33 +568,32 @@ fn count_table(counts: &[usize], base: Survivors, tally: &mut [usize; COUNTED]) 
     }
 }
 
-// Runs all orders of a table. The number that the generator came to.
+// Runs all orders of a table, whose sweeps have so many places. The number that the generator came
+// to.
 fn of_table(
     table: usize,
     counts: &[usize],
     payoffs: &[f64],
-    x: u64,
+    seed: u64,
+    places: usize,
     tally: &mut [usize; COUNTED],
 ) -> u64 {
-    let mut p = started(counts, payoffs, x);
-    let mut base = p.left;
+    let made = survivors::fresh(counts, payoffs);
+    let mut base = made.survivors;
+    let mut x = seed;
     let mut order = 0;
     while order < ORDERS {
-        p = one_order(
-            counts,
-            payoffs,
-            started(counts, payoffs, p.x),
-            PACES[order],
-            tally,
-        );
+        let start = started(counts, payoffs, x, places);
+        let p = one_order(counts, payoffs, start, places, PACES[order], tally);
         if order == 0 {
             base = p.left;
             count_table(counts, base, tally);
         }
         judge(table, counts, payoffs, base, p, tally);
+        x = p.x;
         order += 1;
     }
-    p.x
+    x
 }
 
 // Draws a table and runs its orders. The numbers of players and the kinds take turns.
@@ -618,7 +604,8 @@ fn drawn_table(table: usize, x: u64, tally: &mut [usize; COUNTED]) -> u64 {
     let mut cells = [0.0; CELLS];
     let kind = table / PLAYERS % 4;
     let drawn = draw_payoffs(counts, kind, below(x, WIDTH), next(x), &mut cells);
-    of_table(table, counts, first(&cells, drawn.cells), drawn.x, tally)
+    let payoffs = first(&cells, drawn.cells);
+    of_table(table, counts, payoffs, drawn.x, WIDTH * players, tally)
 }
 
 fn main() {

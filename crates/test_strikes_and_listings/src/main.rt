@@ -97,11 +97,11 @@ fn strike_each(
 }
 
 // Document 01's calls one after the other: `fresh`; `strike` for each that two lists name, each on
-// the survivors that the last one handed back; `surviving_equilibria` over these, into the first two
-// outputs; `equilibria`, into the other two. How many strikes were accepted and the survivors are
-// those of the list's calls, and each listing answers and writes what it has to. Where the outputs
-// have equal lengths, both listings answer and write the same: what the whole table's does. Accepted
-// strikes and marks make up all strategies.
+// the survivors that the last one handed back; `surviving_equilibria` over these, into the first
+// two outputs; `equilibria`, into the other two. How many strikes were accepted and the survivors
+// are those of the list's calls, and each listing answers and writes what it has to. Where the
+// outputs have equal lengths, both listings answer and write the same: what the whole table's does.
+// Accepted strikes and marks make up all strategies.
 fn strike_and_list(
     counts: &[usize],
     payoffs: &[f64],

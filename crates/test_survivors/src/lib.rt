@@ -1,4 +1,5 @@
-// Survivors, and the answers beside them, as the test programs print them; and survivors of numbers.
+// Survivors, and the answers beside them, as the test programs print them; and survivors of
+// numbers.
 ghost use mathlib.Core.Path.{_≡_};
 use survivor_calls::StrikeResult;
 use survivors::FreshResult;

@@ -1,5 +1,5 @@
-// The cases of lists of records and of views: a function to each call of docs/TESTING.md. Each takes
-// the survivors that are kept and hands back those that are kept for the next line.
+// The cases of lists of records and of views: a function to each call of docs/TESTING.md. Each
+// takes the survivors that are kept and hands back those that are kept for the next line.
 use response_list::BestResponse;
 use response_list::ResponseList;
 use response_list::no_records;

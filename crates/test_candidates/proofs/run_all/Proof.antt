@@ -1,4 +1,5 @@
--- `test_candidates::run_all` is safe and ends. The loop's invariant: the buffers are as long as at the start. The measure is the number of turns that are left.
+-- `test_candidates::run_all` is safe and ends. The loop's invariant: the buffers are as long as at
+-- the start. The measure is the number of turns that are left.
 -- Assumes nothing.
 use mathlib.Core.Path.{_≡_}
 use lib.ListN.{length}

@@ -1,4 +1,5 @@
--- `test_catalogue_tables::lines` is safe and ends. The invariant: n is at most how many numbers there are. Assumes nothing.
+-- `test_catalogue_tables::lines` is safe and ends. The invariant: n is at most how many numbers
+-- there are. Assumes nothing.
 use Prim.Native.Nat.{_-_, _≤_}
 use borrow.Author.Needs.{needs}
 use Rattle.test_catalogue_tables.proofs.lines.Statement.{statement}

@@ -1,4 +1,5 @@
--- `test_catalogue_tables::survey` meets its contract. The invariant: k is at most how many tables there are. Assumes nothing.
+-- `test_catalogue_tables::survey` meets its contract. The invariant: k is at most how many tables
+-- there are. Assumes nothing.
 use Prim.Native.Nat.{_-_, _≤_}
 use borrow.Author.Needs.{needs}
 use Rattle.test_catalogue_tables.proofs.survey.Statement.{statement}

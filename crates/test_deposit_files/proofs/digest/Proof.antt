@@ -1,5 +1,5 @@
--- `test_deposit_files::digest` is safe and ends. The loop's invariant: the sum is a remainder. The measure is what is
--- left of the list. Assumes nothing.
+-- `test_deposit_files::digest` is safe and ends. The loop's invariant: the sum is a remainder. The
+-- measure is what is left of the list. Assumes nothing.
 use Prim.Native.Nat.{_-_, _<_}
 use lib.ListN.{length}
 use borrow.Author.Needs.{needs}

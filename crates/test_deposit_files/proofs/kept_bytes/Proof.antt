@@ -1,4 +1,5 @@
--- `test_deposit_files::kept_bytes` is safe and ends. The measure is what is left of the list. Assumes nothing.
+-- `test_deposit_files::kept_bytes` is safe and ends. The measure is what is left of the list.
+-- Assumes nothing.
 use Prim.Native.Nat.{_-_}
 use lib.ListN.{length}
 use borrow.Author.Needs.{needs}

@@ -1,5 +1,5 @@
--- `test_deposit_files::make` is safe and ends. The loop's invariant: the list keeps its length. The measure is what is
--- left of it. Assumes nothing.
+-- `test_deposit_files::make` is safe and ends. The loop's invariant: the list keeps its length. The
+-- measure is what is left of it. Assumes nothing.
 use mathlib.Core.Path.{_≡_}
 use Prim.Native.Nat.{_-_}
 use lib.ListN.{length}

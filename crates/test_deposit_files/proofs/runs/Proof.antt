@@ -1,5 +1,5 @@
--- `test_deposit_files::runs` is safe and ends. The loop's invariant: the file keeps its length. The measure is how many places are
--- left. Assumes nothing.
+-- `test_deposit_files::runs` is safe and ends. The loop's invariant: the file keeps its length. The
+-- measure is how many places are left. Assumes nothing.
 use mathlib.Core.Path.{_≡_}
 use Prim.Native.Nat.{_-_}
 use lib.ListN.{length}

@@ -1,4 +1,5 @@
--- `test_deposit_files::starts_bits` is safe and ends. The measure is what is left of the first list. Assumes nothing.
+-- `test_deposit_files::starts_bits` is safe and ends. The measure is what is left of the first
+-- list. Assumes nothing.
 use Prim.Native.Nat.{_-_}
 use lib.ListN.{length}
 use borrow.Author.Needs.{needs}

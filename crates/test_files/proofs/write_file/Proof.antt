@@ -1,4 +1,5 @@
--- `test_files::write_file` is safe and ends. The loop's invariant: the file is as long as at the start. The measure is what is left of it.
+-- `test_files::write_file` is safe and ends. The loop's invariant: the file is as long as at the
+-- start. The measure is what is left of it.
 -- Assumes nothing.
 use mathlib.Core.Path.{_≡_}
 use Prim.Native.Nat.{_-_}

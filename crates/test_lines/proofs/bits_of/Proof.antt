@@ -1,4 +1,5 @@
--- `test_lines::bits_of` meets its contract: a float equals itself unless it is a NaN, whose bits are those that `toBits` gives it. Assumes nothing.
+-- `test_lines::bits_of` meets its contract: a float equals itself unless it is a NaN, whose bits
+-- are those that `toBits` gives it. Assumes nothing.
 use mathlib.Core.Path.{_≡_, refl, sym, _∙_, subst}
 use mathlib.Core.Bool.{Bool, true, false, not, true≢false}
 use Prim.Native.Nat.{ℕ, _*_}

@@ -1,4 +1,5 @@
--- `test_lines::first` meets its contract: the part ends within the list, and of as many as there are or more the first are all.
+-- `test_lines::first` meets its contract: the part ends within the list, and of as many as there
+-- are or more the first are all.
 -- Assumes nothing.
 use mathlib.Core.Path.{sym}
 use lib.ListN.{length-take}

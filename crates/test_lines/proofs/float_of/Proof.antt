@@ -1,4 +1,5 @@
--- `test_lines::float_of` meets its contract: bits whose exponent's field is not all ones, or whose digits are 0, are no NaN's, and all others are.
+-- `test_lines::float_of` meets its contract: bits whose exponent's field is not all ones, or whose
+-- digits are 0, are no NaN's, and all others are.
 -- Assumes nothing.
 use mathlib.Core.Path.{refl}
 use borrow.Author.Needs.{needs}

@@ -1,4 +1,5 @@
--- `test_lines::group_times` is safe and ends. The loop's invariant: the list is as long as at the start. The measure is how often the group is left to come.
+-- `test_lines::group_times` is safe and ends. The loop's invariant: the list is as long as at the
+-- start. The measure is how often the group is left to come.
 -- Assumes nothing.
 use mathlib.Core.Path.{_≡_}
 use Prim.Native.Nat.{_-_}

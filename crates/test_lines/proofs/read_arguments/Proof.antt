@@ -1,4 +1,5 @@
--- `test_lines::read_arguments` is safe and ends. The loop's invariant: there are as many words as at the start. The measure is the number of arguments that are left.
+-- `test_lines::read_arguments` is safe and ends. The loop's invariant: there are as many words as
+-- at the start. The measure is the number of arguments that are left.
 -- Assumes nothing.
 use mathlib.Core.Path.{_≡_}
 use Prim.Native.Nat.{_-_, _/_}

@@ -1,4 +1,5 @@
--- `test_lines::read_list` is safe and ends. The loop's invariant: the list is as long as at the start. The measure is what is left of the bytes.
+-- `test_lines::read_list` is safe and ends. The loop's invariant: the list is as long as at the
+-- start. The measure is what is left of the bytes.
 -- Assumes nothing.
 use mathlib.Core.Path.{_≡_}
 use Prim.Native.Nat.{_-_}

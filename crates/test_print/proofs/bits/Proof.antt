@@ -1,4 +1,5 @@
--- `test_print::bits` is safe: a float that equals itself is no NaN, so that its bits are defined. Assumes nothing.
+-- `test_print::bits` is safe: a float that equals itself is no NaN, so that its bits are defined.
+-- Assumes nothing.
 use mathlib.Core.Path.{_≡_, sym, subst}
 use mathlib.Core.Bool.{true, not}
 use lib.Dec.{T}

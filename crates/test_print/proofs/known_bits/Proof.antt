@@ -1,4 +1,5 @@
--- `test_print::known_bits` is safe: a float that equals itself is no NaN, so that its bits are defined.
+-- `test_print::known_bits` is safe: a float that equals itself is no NaN, so that its bits are
+-- defined.
 -- Assumes nothing.
 use mathlib.Core.Path.{_≡_, sym, subst}
 use mathlib.Core.Bool.{true, not}

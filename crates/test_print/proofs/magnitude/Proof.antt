@@ -1,4 +1,5 @@
--- `test_print::magnitude` is safe: the two tests are what `truncating_f64_to_u64` asks, with the two numbers by their bit patterns. Assumes nothing.
+-- `test_print::magnitude` is safe: the two tests are what `truncating_f64_to_u64` asks, with the
+-- two numbers by their bit patterns. Assumes nothing.
 use mathlib.Core.Path.{sym, subst}
 use lib.Dec.{T}
 use lib.Ieee.{ofBits, neg}

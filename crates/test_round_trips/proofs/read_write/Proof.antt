@@ -1,4 +1,5 @@
--- `test_round_trips::read_write` meets its contract: what is written is the table that was read. Assumes nothing.
+-- `test_round_trips::read_write` meets its contract: what is written is the table that was read.
+-- Assumes nothing.
 use mathlib.Core.Path.{_≡_, sym, ap, ap₂, _∙_}
 use mathlib.Core.List.{List}
 use mathlib.Core.Option.{none}

@@ -1,4 +1,5 @@
--- `test_round_trips::write_read` meets its contract: what is read is the file that was written. Assumes nothing.
+-- `test_round_trips::write_read` meets its contract: what is read is the file that was written.
+-- Assumes nothing.
 use mathlib.Core.Path.{_≡_, sym, ap, _∙_}
 use mathlib.Core.List.{List}
 use mathlib.Core.Option.{none}

@@ -1,5 +1,5 @@
--- `test_strike_orders::draw_payoffs` is safe and ends. The loop's invariant: the list is as long as at the start. The measure is what is left of it.
--- Assumes nothing.
+-- `test_strike_orders::draw_payoffs` is safe and ends. The loop's invariant: the list is as long as
+-- at the start. The measure is what is left of it. Assumes nothing.
 use mathlib.Core.Path.{_≡_}
 use Prim.Native.Nat.{_-_}
 use lib.ListN.{length}

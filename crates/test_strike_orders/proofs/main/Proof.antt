@@ -1,4 +1,5 @@
--- `test_strike_orders::main` is safe and ends. The measure is how many tables are left. Assumes nothing.
+-- `test_strike_orders::main` is safe and ends. The measure is how many tables are left. Assumes
+-- nothing.
 use Prim.Native.Nat.{_-_}
 use borrow.Author.Needs.{needs}
 use Rattle.test_strike_orders.proofs.main.Statement.{statement}

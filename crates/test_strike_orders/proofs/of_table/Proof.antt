@@ -1,23 +1,24 @@
--- `test_strike_orders::of_table` is safe and ends. The measure is how many orders are left. Assumes nothing.
+-- `test_strike_orders::of_table` is safe and ends. The measure is how many orders are left. Assumes
+-- nothing.
 use Prim.Native.Nat.{_-_}
 use borrow.Author.Needs.{needs}
 use Rattle.test_strike_orders.proofs.of_table.Statement.{statement}
 use Rattle.test_strike_orders.proofs.of_table.Tie as tie
 
 abbrev Inv-loop : tie.InvT-loop
-Inv-loop table counts payoffs x tally₀ p₀ base₀ order₀ tally p base order = Unit {0}
+Inv-loop table counts payoffs seed places tally₀ base₀ x₀ order₀ tally base x order = Unit {0}
 
 abbrev μ-loop : tie.MeasureT-loop
-μ-loop table counts payoffs x tally₀ p₀ base₀ order₀ tally p base order = 4 - order
+μ-loop table counts payoffs seed places tally₀ base₀ x₀ order₀ tally base x order = 4 - order
 
-started-requires : tie.Need-started-requires Inv-loop μ-loop
-started-requires c κs = search needs
+fresh-requires : tie.Need-fresh-requires Inv-loop μ-loop
+fresh-requires c κs = search needs
 
 loop-holds : tie.Need-loop-holds Inv-loop μ-loop
 loop-holds c = search needs
 
-started-requires-2 : tie.Need-started-requires-2 Inv-loop μ-loop
-started-requires-2 c κs = search needs
+started-requires : tie.Need-started-requires Inv-loop μ-loop
+started-requires c κs = search needs
 
 mul-one-order : tie.Need-mul-one-order Inv-loop μ-loop
 mul-one-order c = search needs
@@ -52,9 +53,9 @@ of-table-spec =
     (tie.spec
     Inv-loop
     μ-loop
-    started-requires
+    fresh-requires
     loop-holds
-    started-requires-2
+    started-requires
     mul-one-order
     array-read-one-order
     one-order-requires

@@ -1,5 +1,5 @@
--- `test_strike_orders::one_order` is safe and ends. The loop's invariant: `i` is at most the length of the lists. The
--- measure is how many places of them are left. Assumes nothing.
+-- `test_strike_orders::one_order` is safe and ends. The loop's invariant: `i` is at most the length
+-- of the lists. The measure is how many places of them are left. Assumes nothing.
 use mathlib.Core.Path.{_≡_}
 use Prim.Native.Nat.{_-_, _≤_}
 use lib.ListN.{length}
@@ -8,15 +8,12 @@ use Rattle.test_strike_orders.proofs.one_order.Statement.{statement}
 use Rattle.test_strike_orders.proofs.one_order.Tie as tie
 
 abbrev Inv-loop : tie.InvT-loop
-Inv-loop counts payoffs pace tally₀ players₀ strategies₀ answers₀ dominators₀ places p₀ i₀ tally players strategies answers dominators p i =
+Inv-loop counts payoffs places pace tally₀ players₀ strategies₀ answers₀ dominators₀ p₀ i₀ tally players strategies answers dominators p i =
     (i ≤ 432) × (length players ≡ 432) × (length strategies ≡ 432)
 
 abbrev μ-loop : tie.MeasureT-loop
-μ-loop counts payoffs pace tally₀ players₀ strategies₀ answers₀ dominators₀ places p₀ i₀ tally players strategies answers dominators p i =
+μ-loop counts payoffs places pace tally₀ players₀ strategies₀ answers₀ dominators₀ p₀ i₀ tally players strategies answers dominators p i =
     432 - i
-
-swept-places-requires : tie.Need-swept-places-requires Inv-loop μ-loop
-swept-places-requires c κs = search needs
 
 loop-holds : tie.Need-loop-holds Inv-loop μ-loop
 loop-holds c = search needs
@@ -90,7 +87,6 @@ one-order-spec =
     (tie.spec
     Inv-loop
     μ-loop
-    swept-places-requires
     loop-holds
     chosen-requires
     struck-requires

@@ -1,4 +1,5 @@
--- `test_strike_orders::report` is safe and ends. The measure is what is left of the names. Assumes nothing.
+-- `test_strike_orders::report` is safe and ends. The measure is what is left of the names. Assumes
+-- nothing.
 use Prim.Native.Nat.{_-_}
 use lib.ListN.{length}
 use borrow.Author.Needs.{needs}

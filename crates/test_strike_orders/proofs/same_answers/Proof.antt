@@ -1,4 +1,5 @@
--- `test_strike_orders::same_answers` is safe and ends. The measure is how many places are left. Assumes nothing.
+-- `test_strike_orders::same_answers` is safe and ends. The measure is how many places are left.
+-- Assumes nothing.
 use Prim.Native.Nat.{_-_}
 use borrow.Author.Needs.{needs}
 use Rattle.test_strike_orders.proofs.same_answers.Statement.{statement}

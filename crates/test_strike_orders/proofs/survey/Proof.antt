@@ -1,4 +1,5 @@
--- `test_strike_orders::survey` is safe and ends. The measure is how many places are left. Assumes nothing.
+-- `test_strike_orders::survey` is safe and ends. The measure is how many places are left. Assumes
+-- nothing.
 use Prim.Native.Nat.{_-_}
 use Rattle.payoff_tables.specs.Limits.{maxMarks}
 use borrow.Author.Needs.{needs}
@@ -32,17 +33,23 @@ mul-found-2 c = search needs
 element-copy-out-found-3 : tie.Need-element-copy-out-found-3 Inv-loop μ-loop
 element-copy-out-found-3 c = search needs
 
-one-more-requires : tie.Need-one-more-requires Inv-loop μ-loop
-one-more-requires c κs = search needs
+cast-wrapping-add-usize : tie.Need-cast-wrapping-add-usize Inv-loop μ-loop
+cast-wrapping-add-usize c = search needs
+
+wrapping-add-usize-requires : tie.Need-wrapping-add-usize-requires Inv-loop μ-loop
+wrapping-add-usize-requires c κs = search needs
 
 is-strategy-requires : tie.Need-is-strategy-requires Inv-loop μ-loop
 is-strategy-requires c κs = search needs
 
-one-more-requires-2 : tie.Need-one-more-requires-2 Inv-loop μ-loop
-one-more-requires-2 c κs = search needs
+cast-wrapping-add-usize-2 : tie.Need-cast-wrapping-add-usize-2 Inv-loop μ-loop
+cast-wrapping-add-usize-2 c = search needs
 
-one-more-requires-3 : tie.Need-one-more-requires-3 Inv-loop μ-loop
-one-more-requires-3 c κs = search needs
+wrapping-add-usize-requires-2 : tie.Need-wrapping-add-usize-requires-2 Inv-loop μ-loop
+wrapping-add-usize-requires-2 c κs = search needs
+
+one-more-requires : tie.Need-one-more-requires Inv-loop μ-loop
+one-more-requires c κs = search needs
 
 add-i : tie.Need-add-i Inv-loop μ-loop
 add-i c = search needs
@@ -69,10 +76,12 @@ survey-spec =
     element-copy-out-found-2
     mul-found-2
     element-copy-out-found-3
-    one-more-requires
+    cast-wrapping-add-usize
+    wrapping-add-usize-requires
     is-strategy-requires
-    one-more-requires-2
-    one-more-requires-3
+    cast-wrapping-add-usize-2
+    wrapping-add-usize-requires-2
+    one-more-requires
     add-i
     loop-less
     loop-again

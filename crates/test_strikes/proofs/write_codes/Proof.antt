@@ -1,4 +1,5 @@
--- `test_strikes::write_codes` is safe and ends. The loop's invariant: the list is as long as at the start. The measure is what is left of it.
+-- `test_strikes::write_codes` is safe and ends. The loop's invariant: the list is as long as at the
+-- start. The measure is what is left of it.
 -- Assumes nothing.
 use mathlib.Core.Path.{_≡_}
 use Prim.Native.Nat.{_-_}

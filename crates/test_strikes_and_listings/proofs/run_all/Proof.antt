@@ -1,5 +1,5 @@
--- `test_strikes_and_listings::run_all` is safe and ends. The loop's invariant: the buffer keeps its length. The
--- measure is the number of turns that are left. Assumes nothing.
+-- `test_strikes_and_listings::run_all` is safe and ends. The loop's invariant: the buffer keeps its
+-- length. The measure is the number of turns that are left. Assumes nothing.
 use mathlib.Core.Path.{_≡_}
 use lib.ListN.{length}
 use borrow.Author.Needs.{needs}

@@ -1,4 +1,5 @@
--- `test_survivors::survivors_of` is safe and ends. The loop's invariant: there are as many marks as at the start. The measure is what is left of them.
+-- `test_survivors::survivors_of` is safe and ends. The loop's invariant: there are as many marks as
+-- at the start. The measure is what is left of them.
 -- Assumes nothing.
 use mathlib.Core.Path.{_≡_}
 use Prim.Native.Nat.{_-_}

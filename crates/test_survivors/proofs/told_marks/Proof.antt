@@ -1,4 +1,5 @@
--- `test_survivors::told_marks` is safe and ends. The measure is how many places are left. Assumes nothing.
+-- `test_survivors::told_marks` is safe and ends. The measure is how many places are left. Assumes
+-- nothing.
 use Prim.Native.Nat.{_-_}
 use Rattle.payoff_tables.specs.Limits.{maxMarks}
 use borrow.Author.Needs.{needs}

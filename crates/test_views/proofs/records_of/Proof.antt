@@ -1,4 +1,5 @@
--- `test_views::records_of` is safe and ends. The loop's invariant: there are as many records as at the start. The measure is what is left of them.
+-- `test_views::records_of` is safe and ends. The loop's invariant: there are as many records as at
+-- the start. The measure is what is left of them.
 -- Assumes nothing.
 use mathlib.Core.Path.{_≡_}
 use Prim.Native.Nat.{_-_}

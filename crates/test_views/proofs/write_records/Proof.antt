@@ -1,4 +1,5 @@
--- `test_views::write_records` is safe and ends. The loop's invariant: both lists are as long as at the start. The measure is the number of records that are left.
+-- `test_views::write_records` is safe and ends. The loop's invariant: both lists are as long as at
+-- the start. The measure is the number of records that are left.
 -- Assumes nothing.
 use mathlib.Core.Path.{_≡_}
 use Prim.Native.Nat.{_-_}
