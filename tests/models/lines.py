@@ -233,12 +233,14 @@ def print_elements(elements, print_element):
 
 
 def print_output(elements, print_element, sum_of):
-    """An output: `,` and its elements, or some and the sum where there are more than 128."""
+    """An output: `,` and its elements, or some and the sums where there are more than 128."""
     if len(elements) <= 128:
         return "," + print_elements(elements, print_element)
     total = 0
+    totals = 0
     for element in elements:
         total = (total + sum_of(element)) % 2**64
+        totals = (totals + total) % 2**64
     return (
         ","
         + print_elements(elements[:4], print_element)
@@ -246,6 +248,8 @@ def print_output(elements, print_element, sum_of):
         + print_elements(elements[-5:], print_element)
         + " sum "
         + str(total)
+        + " "
+        + str(totals)
     )
 
 

@@ -129,26 +129,20 @@ pub fn told_bool(r: BoolResult) {
 
 // ---- outputs
 
-// The sum of the numbers, modulo 2^64.
-fn sum(list: &[usize]) -> usize {
+// The sum of the numbers, modulo 2^64, and the sum of the sums of the first one, the first two and so
+// on, which tells their order too.
+fn told_sums(list: &[usize]) {
     let mut all = 0;
+    let mut sums = 0;
     let mut i = 0;
     while i < list.len() {
         all = std::num::wrapping_add_usize(all, list[i]);
+        sums = std::num::wrapping_add_usize(sums, all);
         i += 1;
     }
-    all
-}
-
-// The sum of the floats' bits, modulo 2^64.
-fn bits_sum(list: &[f64]) -> usize {
-    let mut all = 0;
-    let mut i = 0;
-    while i < list.len() {
-        all = std::num::wrapping_add_usize(all, known_bits(list[i]) as usize);
-        i += 1;
-    }
-    all
+    text(b" sum");
+    number(all);
+    number(sums);
 }
 
 // The bits of a float; those of one NaN for every NaN.
@@ -160,12 +154,22 @@ fn known_bits(x: f64) -> u64 {
     }
 }
 
-fn told_sum(all: usize) {
+// The same of the floats' bits.
+fn told_bits_sums(list: &[f64]) {
+    let mut all = 0;
+    let mut sums = 0;
+    let mut i = 0;
+    while i < list.len() {
+        all = std::num::wrapping_add_usize(all, known_bits(list[i]) as usize);
+        sums = std::num::wrapping_add_usize(sums, all);
+        i += 1;
+    }
     text(b" sum");
     number(all);
+    number(sums);
 }
 
-// An output of numbers: whole, or the first four, the last five and the sum.
+// An output of numbers: whole, or the first four, the last five and the sums.
 pub fn output(list: &[usize]) {
     text(b",");
     if WHOLE < list.len() {
@@ -173,7 +177,7 @@ pub fn output(list: &[usize]) {
         numbers(&list[0..4]);
         text(b" ..");
         numbers(&list[from..]);
-        told_sum(sum(list));
+        told_sums(list);
     } else {
         numbers(list);
     }
@@ -187,7 +191,7 @@ pub fn output_floats(list: &[f64]) {
         floats(&list[0..4]);
         text(b" ..");
         floats(&list[from..]);
-        told_sum(bits_sum(list));
+        told_bits_sums(list);
     } else {
         floats(list);
     }

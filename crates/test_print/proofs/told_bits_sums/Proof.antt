@@ -1,16 +1,16 @@
--- `test_print::bits_sum` is safe and ends. The measure is what is left of the list.
+-- `test_print::told_bits_sums` is safe and ends. The measure is what is left of the list.
 -- Assumes nothing.
 use Prim.Native.Nat.{_-_}
 use lib.ListN.{length}
 use borrow.Author.Needs.{needs}
-use Rattle.test_print.proofs.bits_sum.Statement.{statement}
-use Rattle.test_print.proofs.bits_sum.Tie as tie
+use Rattle.test_print.proofs.told_bits_sums.Statement.{statement}
+use Rattle.test_print.proofs.told_bits_sums.Tie as tie
 
 abbrev Inv-loop : tie.InvT-loop
-Inv-loop list all₀ i₀ all i = Unit {0}
+Inv-loop list all₀ sums₀ i₀ t5 all sums i = Unit {0}
 
 abbrev μ-loop : tie.MeasureT-loop
-μ-loop list all₀ i₀ all i = length list - i
+μ-loop list all₀ sums₀ i₀ t5 all sums i = length list - i
 
 loop-holds : tie.Need-loop-holds Inv-loop μ-loop
 loop-holds c = search needs
@@ -27,6 +27,9 @@ known-bits-requires c κs = search needs
 wrapping-add-usize-requires : tie.Need-wrapping-add-usize-requires Inv-loop μ-loop
 wrapping-add-usize-requires c κs = search needs
 
+wrapping-add-usize-requires-2 : tie.Need-wrapping-add-usize-requires-2 Inv-loop μ-loop
+wrapping-add-usize-requires-2 c κs = search needs
+
 add-i : tie.Need-add-i Inv-loop μ-loop
 add-i c = search needs
 
@@ -36,11 +39,23 @@ loop-less c = search needs
 loop-again : tie.Need-loop-again Inv-loop μ-loop
 loop-again c = search needs
 
+slice-aggregate-text : tie.Need-slice-aggregate-text Inv-loop μ-loop
+slice-aggregate-text c = search needs
+
+text-requires : tie.Need-text-requires Inv-loop μ-loop
+text-requires c κs = search needs
+
+number-requires : tie.Need-number-requires Inv-loop μ-loop
+number-requires c κs = search needs
+
+number-requires-2 : tie.Need-number-requires-2 Inv-loop μ-loop
+number-requires-2 c κs = search needs
+
 returns : tie.Need-returns Inv-loop μ-loop
 returns c = search needs
 
-pub bits-sum-spec : {M : Type 1} → statement M
-bits-sum-spec =
+pub told-bits-sums-spec : {M : Type 1} → statement M
+told-bits-sums-spec =
     tie.close
     (tie.spec
     Inv-loop
@@ -50,7 +65,12 @@ bits-sum-spec =
     shared-slice-read-known-bits
     known-bits-requires
     wrapping-add-usize-requires
+    wrapping-add-usize-requires-2
     add-i
     loop-less
     loop-again
+    slice-aggregate-text
+    text-requires
+    number-requires
+    number-requires-2
     returns)
