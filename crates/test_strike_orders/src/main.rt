@@ -20,10 +20,10 @@ use test_print::text;
 
 const TABLES: usize = 1000;
 
-// How many places the sweep goes on in each order of a table. None has a factor in common with the
-// number of places.
 const ORDERS: usize = 4;
 
+// How many places the sweep goes on in each order of a table. None has a factor in common with the
+// number of places.
 const PACES: [usize; ORDERS] = [1, 5, 7, 11];
 
 // The most players of a table.

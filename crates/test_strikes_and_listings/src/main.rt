@@ -240,7 +240,7 @@ fn make(
     }
 }
 
-// The same, with the lists that both calls take or the first.
+// The same, with the lists of a line that are no outputs.
 fn make_of(line: &[u8], r: Case) {
     let mut words = [0; ROOM];
     let mut a = [0; ROOM];
