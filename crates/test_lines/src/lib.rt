@@ -3,7 +3,6 @@
 ghost use mathlib.Core.Path.{_≡_};
 ghost use lib.Ieee.{binary64, ofBits, toBits};
 ghost use mathlib.Core.Bool.{false};
-ghost use lib.Dec.{eqb};
 ghost use lib.ListN.{length, getD, take};
 use libc::STDIN_FILENO;
 use libc::STDOUT_FILENO;
@@ -258,10 +257,19 @@ fn is_hexadecimal(s: &[u8], at: usize) -> bool {
     (byte_at(s, at) == b'0') & (byte_at(s, after(at)) == b'x')
 }
 
+// A number's hexadecimal digits, 16 at most.
+fn read_hexadecimal(s: &[u8], at: usize) -> Read {
+    let read = digits(s, at, true);
+    if 16 < std::num::wrapping_sub_usize(read.at, at) {
+        return unread();
+    }
+    read
+}
+
 // The number at a place.
 fn read_number(s: &[u8], at: usize) -> Read {
     if is_hexadecimal(s, at) {
-        digits(s, after(after(at)), true)
+        read_hexadecimal(s, after(after(at)))
     } else {
         digits(s, at, false)
     }
@@ -671,11 +679,20 @@ fn is_float(kind: u8) -> bool {
     (kind == b'r') | (kind == b'f') | (kind == b'u')
 }
 
+// Whether a field is one element, written as such.
+fn is_single(s: &[u8], floats: bool) -> bool {
+    let read = read_element(s, 0, floats);
+    read.good & (read.at == s.len())
+}
+
 // Reads a field's words, and answers how many they are, or UNREADABLE where the field is no list of
 // this kind.
 fn read_kind(s: &[u8], kind: u8, words: &mut [usize]) -> usize {
     let n = read_list(s, is_float(kind), words);
     let length = length_of(kind);
+    if (length == 1) & !is_single(s, is_float(kind)) {
+        return UNREADABLE;
+    }
     if (length == 0) | (length == n) {
         if are_elements(kind, words, n) {
             return n;
