@@ -4,8 +4,9 @@
     python3 docs/deposit.py FILE.report               the report, its payoffs in decimals
     python3 docs/deposit.py FILE.deposit FILE.report  whether the report is this deposit's
 
-The status is 0 for an answer, a refusal too; 1 for a report that is not in the form or not this
-deposit's; 2 where a file cannot be read, or none is named. It needs Python 3.8 and no packages.
+The status is 0 for an answer, a refusal too; 1 for a report that is not in the form, its lines and
+words, or not this deposit's; 2 where a file cannot be read, or none is named. It needs Python 3.8
+and no packages.
 """
 import itertools
 import math
@@ -151,12 +152,12 @@ def in_decimals(text):
         raise ValueError
     return report_text(*parts, value)
 
-def show(data):
+def show(name, data):
     """Prints a deposit or a report in decimals, and returns the status."""
     text = data.decode("latin-1")
     try:
         # No accepted deposit begins so: the first byte of an opening word, which is 256 + P, is 0.
-        if text.startswith(("players ", "refused ")):
+        if name.endswith(".report") or text.startswith(("players ", "refused ")):
             print(in_decimals(text), end="")
         else:
             counts, table = read(data, CELLS)
@@ -173,7 +174,7 @@ def compare(data, report):
     expected, found = report_of(data).splitlines(True), report.decode("latin-1").splitlines(True)
     for number, pair in enumerate(itertools.zip_longest(expected, found), 1):
         if pair[0] != pair[1]:
-            print("line %d: expected %r, found %r" % (number, *pair))
+            print("line %d: expected %a, found %a" % (number, *pair))
             return 1
     print("the report is this deposit's")
     return 0
@@ -188,7 +189,7 @@ def main(names):
     except OSError as error:
         print(error, file=sys.stderr)
         return 2
-    return show(*files) if len(files) == 1 else compare(*files)
+    return show(names[0], files[0]) if len(files) == 1 else compare(*files)
 
 if __name__ == "__main__":
     sys.exit(main(sys.argv[1:]))

@@ -12,7 +12,8 @@ static double payoffs[SIGVANYOR_MAX_CELLS];
 
 static void print_reading(size_t length) {
     size_t players, cells = 1;
-    const uint32_t status = sigvanyor_read(bytes, length, counts, SIGVANYOR_MAX_PLAYERS, payoffs, SIGVANYOR_MAX_CELLS, &players);
+    const uint32_t status = sigvanyor_read(bytes, length, counts, SIGVANYOR_MAX_PLAYERS, payoffs,
+                                           SIGVANYOR_MAX_CELLS, &players);
     if (status != 0) {
         printf("refused %" PRIu32 "\n", status);
         return;
@@ -45,7 +46,7 @@ int main(int argc, char **argv) {
         const bool whole = !ferror(file) && fgetc(file) == EOF;
         fclose(file);
         if (!whole) {
-            fprintf(stderr, "read_deposit: %s cannot be read, or is longer than any deposit\n", argv[i]);
+            fprintf(stderr, "read_deposit: %s cannot be read, or is too long\n", argv[i]);
             return 2;
         }
         printf("%s\n", argv[i]);
