@@ -5,8 +5,8 @@
     python3 docs/deposit.py FILE.deposit FILE.report  whether the report is this deposit's
 
 The status is 0 for an answer, a refusal too; 1 for a report that is not in the form, its lines and
-words, or not this deposit's; 2 where a file cannot be read, or none is named. It needs Python 3.8
-and no packages.
+words, or not this deposit's; 2 where a file cannot be read, or not one or two
+are named. It needs Python 3.8 and no packages.
 """
 import itertools
 import math
