@@ -13,10 +13,10 @@ use Rattle.game.specs.Finite.{_∈_, below}
 use Rattle.payoff_order.specs.Order.{finite}
 use Rattle.sums.specs.Sums.{zero}
 use Rattle.candidate_input.specs.Input.{tolerable, wellFormed}
-use Rattle.gains.specs.Gains.{gainsOf}
+use Rattle.gains.specs.Gains.{gain, gainsOf}
 use Rattle.gains.specs.Meaning.{Greatest, Gain}
 use Rattle.gains.proofs.Answer.{answer-law, answer-not-finite, answer-infinity-or, answer-at-least-zero, answer-not-nan, answer-not-minus-zero}
-use Rattle.gains.proofs.Laws.{gains-of-law, gain-fits}
+use Rattle.gains.proofs.Laws.{changes-law, gain-fits}
 use Rattle.candidates.specs.Checks.{entry, gains, incentives, verdictOf}
 
 -- no tolerance reaches infinity
@@ -34,8 +34,8 @@ module _ (m n : ℕ) (u1 u2 weights : List Float) where
   gains-law x =
       let rows : List Float = gainsOf (λ i j. entry n weights i j) (λ i j. entry n u1 i j) (below n) m in
       let columns : List Float = gainsOf (λ j i. entry n weights i j) (λ j i. entry n u2 i j) (below m) n in
-      let first = gains-of-law (λ i j. entry n weights i j) (λ i j. entry n u1 i j) (below n) m x in
-      let second = gains-of-law (λ j i. entry n weights i j) (λ j i. entry n u2 i j) (below m) n x in (
+      let first = changes-law (gain (λ i j. entry n weights i j) (λ i j. entry n u1 i j) (below n)) m x in
+      let second = changes-law (gain (λ j i. entry n weights i j) (λ j i. entry n u2 i j) (below m)) n x in (
         λ h. ⊎-elim (λ k. inl (first .0 k)) (λ k. inr (second .0 k)) (in-append rows h),
         ⊎-elim (λ g. append-left columns (first .1 g)) (λ g. append-right rows (second .1 g)),
       )

@@ -16,8 +16,9 @@ use Rattle.game.proofs.Finite.{either, test-true, test-false, all-T}
 use Rattle.payoff_order.specs.Order.{finite, rank}
 use Rattle.payoff_order.proofs.Laws.{lt-rank}
 use Rattle.sums.specs.Sums.{zero}
-use Rattle.gains.specs.Gains.{greatestFrom, greatest, answerOf}
+use Rattle.gains.specs.Gains.{greatest, answerOf}
 use Rattle.gains.specs.Meaning.{Greatest}
+use Rattle.gains.proofs.Greatest.{greatest-from-law}
 
 -- ---- the greatest
 
@@ -25,51 +26,23 @@ use Rattle.gains.specs.Meaning.{Greatest}
 abbrev Valued : Float → Type 0
 Valued x = T (fits binary64 x) × T (finite x)
 
--- g is the greatest of a list and b
-record Over (b : Float) (xs : List Float) (g : Float) : Type 0 where
-  valued : Valued g
-  start : rank b ≤ rank g
-  top : (x : Float) → x ∈ xs → rank x ≤ rank g
-  found : (g ≡ b) ⊎ ((g ∈ xs) × (rank b < rank g))
-
 greater : (b x : Float) → Valued b → Valued x → lt b x ≡ ltb (rank b) (rank x)
 greater b x (p, q) (r, s) = lt-rank b x p r q s
-
-over : (b : Float) (xs : List Float) → Valued b → ((x : Float) → x ∈ xs → Valued x) → Over b xs (greatestFrom b xs)
-over b [] v all = record { valued = v; start = omega arith; top = λ x h. absurd (not-in-nil h); found = inl refl }
-over b (y ∷ ys) v all = go (lt b y) (greater b y v (all y (here refl))) (λ c w. over c ys w (λ x h. all x (there h)))
-  where
-    go : (t : Bool) → t ≡ ltb (rank b) (rank y) → ((c : Float) → Valued c → Over c ys (greatestFrom c ys)) → Over b (y ∷ ys) (greatestFrom (cond t y b) ys)
-    go true e rest =
-        let r = rest y (all y (here refl)) in
-        let l : rank b < rank y = ltb-true (rank b) (rank y) (sym e) in
-        record {
-          valued = r .valued;
-          start = omega (arith, r .start);
-          top = λ x h. ⊎-elim (λ (q : x ≡ y). subst (λ (z : Float). rank z ≤ rank (greatestFrom y ys)) (sym q) (r .start)) (r .top x) (in-cons h);
-          found = ⊎-elim (λ (q : greatestFrom y ys ≡ y). inr (here q, omega (arith, r .start))) (λ w. inr (there (w .0), omega (arith, r .start))) (r .found);
-        }
-    go false e rest =
-        let r = rest b v in
-        let l : rank y ≤ rank b = ltb-false (rank b) (rank y) (sym e) in
-        record {
-          valued = r .valued;
-          start = r .start;
-          top = λ x h. ⊎-elim (λ (q : x ≡ y). subst (λ (z : Float). rank z ≤ rank (greatestFrom b ys)) (sym q) (omega (arith, r .start))) (r .top x) (in-cons h);
-          found = ⊎-elim inl (λ w. inr (there (w .0), w .1)) (r .found);
-        }
 
 zero-valued : Valued zero
 unfolding fits finite ofBits
 zero-valued = (tt, tt)
 
 pub greatest-law : (xs : List Float) → ((x : Float) → x ∈ xs → T (fits binary64 x) × T (finite x)) → Greatest xs (greatest xs)
-greatest-law xs all =
-    let r = over zero xs zero-valued all in
-    record {
-      top = λ x h. greater (greatest xs) x (r .valued) (all x h) ∙ le-ltb (rank (greatest xs)) (rank x) (r .top x h);
-      found = ⊎-elim inl (λ w. inr (w .0, greater zero (greatest xs) zero-valued (r .valued) ∙ lt-ltb (rank zero) (rank (greatest xs)) (w .1))) (r .found);
-    }
+greatest-law xs each =
+    greatest-from-law lt Valued
+    (λ x y h k l. greater y x k h ∙ le-ltb (rank y) (rank x) (let m = ltb-true (rank x) (rank y) (sym (greater x y h k) ∙ l) in omega arith))
+    (λ x y z h k i l m.
+    greater x z h i
+    ∙ le-ltb (rank x) (rank z)
+    (let a = ltb-false (rank x) (rank y) (sym (greater x y h k) ∙ l) in
+    let b = ltb-false (rank y) (rank z) (sym (greater y z k i) ∙ m) in omega arith))
+    zero xs zero-valued each
 
 -- ---- infinity
 

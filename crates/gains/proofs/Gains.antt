@@ -30,13 +30,13 @@ pub raise-infinity : (xs : List Float) → raiseAll (inf false) xs ≡ inf false
 raise-infinity [] = refl
 raise-infinity (x ∷ xs) = ap (λ (b : Float). raiseAll b xs) (raise-once x) ∙ raise-infinity xs
 
-pub raise-greatest : (best : Float) (xs : List Float) → raiseAll best xs ≡ cond (all finite xs) (greatestFrom best xs) (inf false)
+pub raise-greatest : (best : Float) (xs : List Float) → raiseAll best xs ≡ cond (all finite xs) (greatestFrom lt best xs) (inf false)
 raise-greatest best [] = refl
 raise-greatest best (x ∷ xs) = step (finite x) (raise-greatest (cond (lt best x) x best) xs)
   where
     step : (b : Bool)
-        → raiseAll (cond (lt best x) x best) xs ≡ cond (all finite xs) (greatestFrom (cond (lt best x) x best) xs) (inf false)
-        → raiseAll (cond b (cond (lt best x) x best) (inf false)) xs ≡ cond (b && all finite xs) (greatestFrom (cond (lt best x) x best) xs) (inf false)
+        → raiseAll (cond (lt best x) x best) xs ≡ cond (all finite xs) (greatestFrom lt (cond (lt best x) x best) xs) (inf false)
+        → raiseAll (cond b (cond (lt best x) x best) (inf false)) xs ≡ cond (b && all finite xs) (greatestFrom lt (cond (lt best x) x best) xs) (inf false)
     step true h = h
     step false h = raise-infinity xs
 

@@ -1,4 +1,4 @@
--- The gains of a player are those of every change (`gains-of-law`), and each is an f64 (`gain-fits`). Assumes nothing.
+-- The gains of a player are those of every change (`changes-law`), and each is an f64 (`gain-fits`). Assumes nothing.
 use mathlib.Core.Path.{sym, subst}
 use mathlib.Core.Bool.{not}
 use mathlib.Core.List.{List, map, Memᴰ·map as to-map, Memᴰ·of-map as of-map}
@@ -9,15 +9,15 @@ use lib.Ieee.{Float, binary64, sub, mul, fits}
 use Rattle.game.specs.Finite.{_∈_, below, filter}
 use Rattle.game.proofs.Finite.{no-T, eqb-T, below-mem, filter-mem, of-flatMap, to-flatMap}
 use Rattle.sums.proofs.Sums.{sum-fits}
-use Rattle.gains.specs.Gains.{gain, gainsFrom, gainsOf}
-use Rattle.gains.specs.Meaning.{Gain}
+use Rattle.gains.specs.Gains.{changesFrom, changes}
+use Rattle.gains.specs.Meaning.{Change, Gain}
 
-module _ {I : Type 0} (weight payoff : ℕ → I → Float) (others : List I) (count : ℕ) where
-  pub gains-of-law : (x : Float) → (x ∈ gainsOf weight payoff others count) ↔ Gain weight payoff others count x
-  gains-of-law x = (
+module _ {A : Type 0} (f : ℕ → ℕ → A) (count : ℕ) where
+  pub changes-law : (x : A) → (x ∈ changes f count) ↔ Change f count x
+  changes-law x = (
     λ h.
-        let (s, i, k) = of-flatMap (gainsFrom weight payoff others count) (below count) x h in
-        let (t, j, e) = of-map (gain weight payoff others s) (filter (λ t. not (eqb t s)) (below count)) k in
+        let (s, i, k) = of-flatMap (changesFrom f count) (below count) x h in
+        let (t, j, e) = of-map (f s) (filter (λ t. not (eqb t s)) (below count)) k in
         let (l, d) = filter-mem (λ t. not (eqb t s)) (below count) t .0 j in
         record {
           from = s;
@@ -30,9 +30,9 @@ module _ {I : Type 0} (weight payoff : ℕ → I → Float) (others : List I) (c
     λ r.
         let s = r .from in
         let t = r .to in
-        to-flatMap (gainsFrom weight payoff others count) (below count) s x (below-mem count s .1 (r .strategy))
-        (subst (λ (y : Float). y ∈ gainsFrom weight payoff others count s) (sym (r .is))
-        (to-map (gain weight payoff others s)
+        to-flatMap (changesFrom f count) (below count) s x (below-mem count s .1 (r .strategy))
+        (subst (λ (y : A). y ∈ changesFrom f count s) (sym (r .is))
+        (to-map (f s)
         (filter-mem (λ t. not (eqb t s)) (below count) t .1 (below-mem count t .1 (r .change), no-T (eqb t s) .1 (λ q. r .another (eqb-T t s .0 q)))))),
   )
 

@@ -8,6 +8,16 @@ use Rattle.game.specs.Finite.{all, below, filter}
 use Rattle.payoff_order.specs.Order.{finite}
 use Rattle.sums.specs.Sums.{zero, sumOfProducts}
 
+-- f(s)(t) for every change of a strategy s for another one t, s ascending and then t
+module _ {A : Type 0} (f : ℕ → ℕ → A) (count : ℕ) where
+  -- for each t ≠ s in place of s
+  abbrev pub changesFrom : ℕ → List A
+  changesFrom s = map (f s) (filter (λ t. not (eqb t s)) (below count))
+
+  -- for each s
+  abbrev pub changes : List A
+  changes = flatMap changesFrom (below count)
+
 module _ {I : Type 0} (weight payoff : ℕ → I → Float) (others : List I) where
   -- what a player gains by t in place of s: over the others' choices in their order, the weight of s times (payoff of t − payoff of s)
   abbrev pub gain : ℕ → ℕ → Float
@@ -15,20 +25,21 @@ module _ {I : Type 0} (weight payoff : ℕ → I → Float) (others : List I) wh
 
   -- the gains by each t ≠ s in place of s
   abbrev pub gainsFrom : ℕ → ℕ → List Float
-  gainsFrom count s = map (gain s) (filter (λ t. not (eqb t s)) (below count))
+  gainsFrom = changesFrom gain
 
   -- the gains of a player with `count` strategies
   abbrev pub gainsOf : ℕ → List Float
-  gainsOf count = flatMap (gainsFrom count) (below count)
+  gainsOf = changes gain
 
--- the greatest of a list and b
-abbrev pub greatestFrom : Float → List Float → Float
-greatestFrom b [] = b
-greatestFrom b (x ∷ xs) = greatestFrom (cond (lt b x) x b) xs
+-- the greatest of a list and b, in the order of a test of less
+module _ {A : Type 0} (less : A → A → Bool) where
+  abbrev pub greatestFrom : A → List A → A
+  greatestFrom b [] = b
+  greatestFrom b (x ∷ xs) = greatestFrom (cond (less b x) x b) xs
 
 -- the greatest of a list, or +0.0 when none is above 0
 abbrev pub greatest : List Float → Float
-greatest = greatestFrom zero
+greatest = greatestFrom lt zero
 
 -- infinity for what is not well formed and for a gain that isn't finite, else the greatest gain, or +0.0 when none is above 0
 unfoldable pub answerOf : Bool → List Float → Float

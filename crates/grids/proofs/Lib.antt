@@ -1,0 +1,5 @@
+-- The laws of this crate's definitions.
+pub mod Pairs
+pub mod Grid
+pub mod Listed
+pub mod Computed

@@ -1,0 +1,1 @@
+// The correlated check on whole-number grids: definitions and their laws, no code.
