@@ -310,7 +310,11 @@ uint32_t sigvanyor_number(const size_t *counts, size_t counts_len, const double 
  * columns ascending, of weights(i,j) x (u1(k,j) - u1(i,j)), each operation rounded; for two columns
  * likewise, over the rows ascending, with u2. +0.0 where no gain is above 0. Infinity where a gain
  * is not finite, m or n is 0 or over SIGVANYOR_MAX_ACTIONS, a length is not m x n, a number is not
- * finite, or a weight is below 0. */
+ * finite, or a weight is below 0.
+ * It is exact where the payoffs are whole numbers from -2^20 to 2^20 and the weights whole multiples
+ * of 1/65536 from 0 to 1: 65536 times the answer is the greatest sum in whole numbers, or 0, and an
+ * answer of 0 puts no weight on a row or a column that another one strictly dominates, for the
+ * player who chooses it. */
 double sigvanyor_verify_correlated_equilibrium_incentives(size_t m, size_t n, const double *u1, size_t u1_len,
                                                           const double *u2, size_t u2_len,
                                                           const double *weights, size_t weights_len);

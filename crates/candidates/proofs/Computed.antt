@@ -1,4 +1,5 @@
--- Small candidates computed: each is true by the definitions alone. Assumes nothing.
+-- Small candidates computed: each is true by the definitions alone. The dilemma is for other crates
+-- too. Assumes nothing.
 use mathlib.Core.Path.{_≡_, refl}
 use mathlib.Core.Bool.{true, false}
 use mathlib.Core.List.{List, [], _∷_, flatMap}
@@ -23,10 +24,10 @@ minus-one = ofBits binary64 0xbff0_0000_0000_0000
 half : Float
 half = ofBits binary64 0x3fe0_0000_0000_0000
 
-two : Float
+unfoldable pub two : Float
 two = ofBits binary64 0x4000_0000_0000_0000
 
-three : Float
+unfoldable pub three : Float
 three = ofBits binary64 0x4008_0000_0000_0000
 
 -- 10^308 and −10^308
@@ -51,17 +52,17 @@ small = ofBits binary64 0x3c98_0000_0000_0000
 
 -- ---- the prisoner's dilemma, (2,2) (0,3) (3,0) (1,1), by player
 
-first : List Float
+unfoldable pub first : List Float
 first = two ∷ zero ∷ three ∷ one ∷ []
 
-second : List Float
+unfoldable pub second : List Float
 second = two ∷ three ∷ zero ∷ one ∷ []
 
 -- all weight on 0 0, and on 1 1
-at-start : List Float
+unfoldable pub at-start : List Float
 at-start = one ∷ zero ∷ zero ∷ zero ∷ []
 
-at-end : List Float
+unfoldable pub at-end : List Float
 at-end = zero ∷ zero ∷ zero ∷ one ∷ []
 
 -- matching pennies, player 1's payoffs, and both vectors

@@ -3,14 +3,14 @@
 -- it. With all weight on 0 0 either player gains 1, and the answer is 1.0. Assumes nothing.
 use mathlib.Core.Path.{_≡_, refl}
 use mathlib.Core.Bool.{true}
-use mathlib.Core.List.{List, [], _∷_, flatMap}
+use mathlib.Core.List.{[], _∷_, flatMap}
 use Prim.Native.Nat.{ℕ, zero, suc, _+_, _*_, _<_}
 use native.Mathlib.Omega.{arith}
 use lib.Dec.{lit≤}
 use lib.IntN.{ℤ, pos, negsuc}
 use lib.ListN.{getD}
 use lib.Ieee as Ieee
-use lib.Ieee.{Float, binary64, ofBits}
+use lib.Ieee.{ofBits}
 use Rattle.game.specs.Game.{profiles, whole, others}
 use Rattle.game.specs.Solution.{dominates}
 use Rattle.payoff_order.specs.Order.{finite, key, rank}
@@ -19,29 +19,11 @@ use Rattle.sums.specs.Sums.{zero as nought, one}
 use Rattle.candidate_input.specs.Input.{wellFormed}
 use Rattle.gains.specs.Gains.{answerOf}
 use Rattle.candidates.specs.Checks.{entry, gains, incentives}
+use Rattle.candidates.proofs.Computed.{two, three, first, second, at-start, at-end}
 use Rattle.whole_numbers.specs.Gains.{GridPayoff, GridWeight, greatestWhole}
 use Rattle.grids.specs.Grid.{Grid, wholeGains, twoPlayers}
 
-two : Float
-two = ofBits binary64 0x4000_0000_0000_0000
-
-three : Float
-three = ofBits binary64 0x4008_0000_0000_0000
-
-first : List Float
-first = two ∷ nought ∷ three ∷ one ∷ []
-
-second : List Float
-second = two ∷ three ∷ nought ∷ one ∷ []
-
--- all weight on 1 1, and on 0 0
-at-end : List Float
-at-end = nought ∷ nought ∷ nought ∷ one ∷ []
-
-at-start : List Float
-at-start = one ∷ nought ∷ nought ∷ nought ∷ []
-
--- their whole numbers
+-- the payoffs and both weights in whole numbers
 U1 : ℕ → ℕ → ℤ
 U1 i j = getD (pos 2 ∷ pos 0 ∷ pos 3 ∷ pos 1 ∷ []) (i * 2 + j) (pos 0)
 
