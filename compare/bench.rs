@@ -194,8 +194,8 @@ fn solvers(kind: &str, counts: &[usize], payoffs: &[f64]) {
     );
 }
 
-/// The candidate checks at their limit. Payoffs are from 0 up to 1, so that every expectation is
-/// within the claim.
+/// The candidate checks at their limit, and the gain on 2 × 2. Payoffs are from 0 up to 1, so that
+/// every expectation is within the claim.
 fn candidates() {
     let n = ACTIONS;
     let mut random = Random(16);
@@ -205,17 +205,24 @@ fn candidates() {
     gain(
         "`verify_correlated_equilibrium_incentives`, random payoffs, \
          weights that are a distribution",
+        n,
         [&u1, &u2, &weights],
     );
     let zeros = vec![0.0; n * n];
-    gain("the same payoffs, all weights 0", [&u1, &u2, &zeros]);
+    gain("the same payoffs, all weights 0", n, [&u1, &u2, &zeros]);
     let kept = [u1[0], u1[n]];
     [u1[0], u1[n]] = [-f64::MAX, f64::MAX];
     gain(
         "the same weights, two payoffs changed so that the first gain is infinite",
+        n,
         [&u1, &u2, &weights],
     );
     [u1[0], u1[n]] = kept;
+    gain(
+        "the same call, 2 × 2: the prisoner's dilemma, all weights 1/4",
+        2,
+        [&[2.0, 0.0, 3.0, 1.0], &[2.0, 3.0, 0.0, 1.0], &[0.25; 4]],
+    );
     let [p1, p2] = [(); 2].map(|()| candidate_cases::distribution(&mut random, n));
     minimax(
         "`verify_minimax_residuals`, random payoffs and distributions, a claim that holds",
@@ -228,14 +235,14 @@ fn candidates() {
     );
 }
 
-/// The Rust's rows are there beforehand.
-fn gain(name: &str, lists: [&[f64]; 3]) {
-    let [u1, u2, weights] = lists.map(|list| rust::rows(list, ACTIONS));
+/// As many rows as columns. The Rust's rows are there beforehand.
+fn gain(name: &str, n: usize, lists: [&[f64]; 3]) {
+    let [u1, u2, weights] = lists.map(|list| rust::rows(list, n));
     row(
         &["candidates", name],
         || {
             let lists = black_box(lists);
-            library::verify_correlated_equilibrium_incentives(ACTIONS, ACTIONS, lists)
+            library::verify_correlated_equilibrium_incentives(n, n, lists)
         },
         || rust::incentives(black_box(&u1), black_box(&u2), black_box(&weights)),
     );

@@ -113,7 +113,10 @@ pub fn bench(runs: &str, part: &str) {
     solvers(&of("solvers"));
     elimination(&of("elimination"), &of("strike"));
     strike_checks(&of("strike"));
-    pairs("candidate checks, 64 × 64", &of("candidates"));
+    pairs(
+        "candidate checks, 64 × 64 unless other sizes are named",
+        &of("candidates"),
+    );
     deposits(&of("deposits"));
     pairs("catalogue", &of("catalogue"));
     reports(&of("report"));

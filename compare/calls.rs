@@ -5,6 +5,7 @@ use crate::cases::{self, Random};
 use crate::catalogue;
 use crate::deposit::{self, Deposits};
 use crate::document::{self, Ground, CELLS, PLAYERS, STRATEGIES};
+use crate::grids::{self, Grids};
 use crate::inputs;
 use crate::library::{self, Answer, Bits};
 use crate::report::{self, Reports};
@@ -27,6 +28,7 @@ pub fn compare() {
             strikes::strikes(),
             deposit::deposits(),
             catalogue::catalogue(),
+            grids::grids(),
         )
     });
     let (mut with_rust, mut with_document) = (0, 0);
@@ -61,7 +63,7 @@ pub fn compare() {
     report(solvers.dominated, &[0, 1, 3, 6, 7, 8], &lists);
     let candidates = candidates::candidates();
     let reports = report::reports();
-    let (strikes, deposits, catalogue) = other.join().unwrap();
+    let (strikes, deposits, catalogue, grids) = other.join().unwrap();
     strike_calls(strikes, &mut report);
     let classes =
         |grounds: &[Ground]| -> Vec<u32> { grounds.iter().map(|ground| *ground as u32).collect() };
@@ -73,6 +75,9 @@ pub fn compare() {
     let verdict = classes(&Candidates::VERDICT);
     report(candidates.verdict, &[], &[(Judge::Unasked, &verdict)]);
     report(candidates.minimax, &classes(&Candidates::MINIMAX), &others);
+    grids.report_features();
+    report(grids.gain, &Grids::GAIN, &[]);
+    report(grids.dominated, &Grids::DOMINATED, &[]);
     let read: Vec<u32> = (0..deposit::GROUNDS.len() as u32).collect();
     report(deposits.read, &[], &[(Judge::Unasked, &read)]);
     report(deposits.write, &[], &[(Judge::Unasked, &Deposits::WRITE)]);

@@ -240,13 +240,19 @@ fn cyclic(random: &mut Random, size: usize) -> Core {
     let row: Vec<f64> = (0..size).map(|_| number(random, kind)).collect();
     let part = 1.0 / size as f64;
     Core {
-        payoffs: (0..size * size)
-            .map(|cell| row[(cell % size + size - cell / size) % size])
-            .collect(),
+        payoffs: around(&row),
         p1: vec![part; size],
         p2: vec![part; size],
         value: document::sum(row.iter().copied()) * part,
     }
+}
+
+/// A row, and below it the same one turned around by one place more in each row.
+pub fn around<T: Copy>(row: &[T]) -> Vec<T> {
+    let size = row.len();
+    (0..size * size)
+        .map(|cell| row[(cell % size + size - cell / size) % size])
+        .collect()
 }
 
 /// A minimax candidate that is right up to rounding, and the value: a core at some rows and columns, the other rows no

@@ -86,7 +86,7 @@ impl Candidate {
         by == Judge::Rust && [self.m, self.n] == [ACTIONS; 2]
     }
 
-    fn input(&self) -> String {
+    pub fn input(&self) -> String {
         let [first, second, third] = self.lists();
         numbers("sizes", &[self.m, self.n])
             + &floats("u1 or payoffs", first)

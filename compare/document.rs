@@ -233,11 +233,15 @@ pub fn incentives(m: usize, n: usize, [u1, u2, weights]: [&[f64]; 3]) -> (Ground
 
 /// For each strategy and each other one in its place: from 0.0, a term for each of the others' choices, ascending.
 fn gains(own: usize, others: usize, term: impl Fn(usize, usize, usize) -> f64) -> Vec<f64> {
-    let pairs = (0..own).flat_map(|from| (0..own).map(move |to| (from, to)));
-    pairs
-        .filter(|(from, to)| from != to)
+    pairs(own)
         .map(|(from, to)| sum((0..others).map(|other| term(from, to, other))))
         .collect()
+}
+
+/// Each of so many strategies with each other one.
+pub fn pairs(own: usize) -> impl Iterator<Item = (usize, usize)> {
+    let pairs = (0..own).flat_map(move |from| (0..own).map(move |to| (from, to)));
+    pairs.filter(|(from, to)| from != to)
 }
 
 /// The greatest of the gains that are above 0.

@@ -17,6 +17,8 @@ mod deposit;
 mod deposit_cases;
 mod differences;
 mod document;
+mod grid_cases;
+mod grids;
 mod inputs;
 mod library;
 mod plain;
