@@ -94,7 +94,8 @@ record Computed : Type 0 where
   by-columns : incentives 2 2 nothing corner (zero ∷ zero ∷ one ∷ zero ∷ []) ≡ one
   -- zero weights are not skipped: 0 × infinity is no number
   overflow : incentives 2 1 (huge ∷ minus-huge ∷ []) (zero ∷ zero ∷ []) (zero ∷ zero ∷ []) ≡ inf false
-  -- −0.0 is a weight, and the answer is +0.0; a negative weight, a wrong length, a NaN and no rows are answered by infinity
+  -- −0.0 is a weight, and the answer is +0.0; a negative weight, a wrong length, a NaN and no rows
+  -- are answered by infinity
   minus-weight : incentives 2 1 (one ∷ zero ∷ []) (zero ∷ zero ∷ []) (minus-zero ∷ minus-zero ∷ []) ≡ zero
   negative : incentives 1 1 (one ∷ []) (one ∷ []) (minus-one ∷ []) ≡ inf false
   short : incentives 1 2 (one ∷ []) (one ∷ []) (one ∷ []) ≡ inf false
@@ -105,12 +106,14 @@ record Computed : Type 0 where
   over : verdictOf 2 2 first second at-start half ≡ false
   minus-tolerance : verdictOf 2 2 first second at-end minus-zero ≡ true
   infinite-tolerance : verdictOf 2 2 first second at-end (inf false) ≡ false
-  -- matching pennies has the value 0, and no other; the vectors are its solution; −0.0 is a tolerance
+  -- matching pennies has the value 0, and no other; the vectors are its solution; −0.0 is a
+  -- tolerance
   value : minimax 2 2 pennies halves halves (claim zero zero) ≡ true
   other-value : minimax 2 2 pennies halves halves (claim one zero) ≡ false
   other-vector : minimax 2 2 pennies halves (one ∷ zero ∷ []) (claim zero zero) ≡ false
   minus-claim : minimax 2 2 pennies halves halves (claim minus-zero minus-zero) ≡ true
-  -- value − tolerance is rounded, here down to the payoff; value + tolerance may be an infinity, which passes
+  -- value − tolerance is rounded, here down to the payoff; value + tolerance may be an infinity,
+  -- which passes
   rounded : minimax 1 1 (below-one ∷ []) (one ∷ []) (one ∷ []) (claim one small) ≡ true
   exactly : minimax 1 1 (below-one ∷ []) (one ∷ []) (one ∷ []) (claim one zero) ≡ false
   unbounded : minimax 1 1 (huge ∷ []) (one ∷ []) (one ∷ []) (claim huge huge) ≡ true

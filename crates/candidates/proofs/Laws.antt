@@ -1,6 +1,8 @@
--- What the answer of the correlated check says: the gains are those of every change, of both players (`gains-law`), the answer is the greatest
--- of them (`incentives-law`) or infinity (`not-finite`, `infinity-or`), and it is +0.0 or above (`at-least-zero`, `not-nan`,
--- `not-minus-zero`); on an infinite one the verdict is no (`infinite-verdict`). True by the laws of `gains`. Assumes nothing.
+-- What the answer of the correlated check says: the gains are those of every change, of both
+-- players (`gains-law`), the answer is the greatest of them (`incentives-law`) or infinity
+-- (`not-finite`, `infinity-or`), and it is +0.0 or above (`at-least-zero`, `not-nan`,
+-- `not-minus-zero`); on an infinite one the verdict is no (`infinite-verdict`). True by the laws of
+-- `gains`. Assumes nothing.
 use mathlib.Core.Path.{_≡_, refl}
 use mathlib.Core.Bool.{true, false, not, _&&_, and-false}
 use mathlib.Core.List.{List, List·Memᴰ·append-cases as in-append, Memᴰ·append-left as append-left, Memᴰ·append-right as append-right}

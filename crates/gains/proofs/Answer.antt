@@ -1,13 +1,13 @@
--- The answer to a list of gains: the greatest of them, or +0.0 (`greatest-law`, `answer-law`), or infinity (`answer-not-formed`,
--- `answer-not-finite`, `answer-infinity-or`). It is +0.0 or above (`answer-at-least-zero`, `answer-not-nan`, `answer-not-minus-zero`). True
--- because finite f64s are in the order of their ranks. Assumes nothing.
+-- The answer to a list of gains: the greatest of them, or +0.0 (`greatest-law`, `answer-law`), or
+-- infinity (`answer-not-formed`, `answer-not-finite`, `answer-infinity-or`). It is +0.0 or above
+-- (`answer-at-least-zero`, `answer-not-nan`, `answer-not-minus-zero`). True because finite f64s are
+-- in the order of their ranks. Assumes nothing.
 use mathlib.Core.Path.{_≡_, refl, sym, ap, _∙_, subst}
 use mathlib.Core.Bool.{Bool, true, false, cond, _&&_, _||_, and-false, true≢false}
-use mathlib.Core.List.{List, [], _∷_, List·Memᴰ·head as here, List·Memᴰ·tail as there, List·Memᴰ·not-nil as not-in-nil, List·Memᴰ·cases-cons as in-cons}
+use mathlib.Core.List.{List}
 use mathlib.Core.Logic.{_⊎_, inl, inr, ⊎-elim}
-use Prim.Native.Nat.{_≤_, _<_}
 use native.Mathlib.Omega.{arith}
-use borrow.Author.Tests.{ltb-true, ltb-false, lt-ltb, le-ltb}
+use borrow.Author.Tests.{ltb-true, ltb-false, le-ltb}
 use lib.Dec.{T, ltb}
 use lib.IntN.{pos}
 use lib.Ieee.{Float, nan, inf, fin, binary64, ofBits, lt, le, eq, fits}
@@ -101,7 +101,8 @@ unfolding lt ofBits
 not-above = refl
 
 module _ (formed : Bool) (gs : List Float) (fit : (x : Float) → x ∈ gs → T (fits binary64 x)) where
-  -- where what is handed in is well formed and every gain is finite, the answer is the greatest of them, or +0.0
+  -- where what is handed in is well formed and every gain is finite, the answer is the greatest of
+  -- them, or +0.0
   pub answer-law : T formed → ((x : Float) → x ∈ gs → T (finite x)) → Greatest gs (answerOf formed gs)
   unfolding answerOf
   answer-law f each =

@@ -1,5 +1,6 @@
--- The best so far, raised by one gain after the other (`raise-append`, `raise-next`), is infinity from a gain on that isn't finite
--- (`raise-infinity`, `raise-stuck`), and the greatest of all where all are finite (`raise-greatest`). Assumes nothing.
+-- The best so far, raised by one gain after the other (`raise-append`, `raise-next`), is infinity
+-- from a gain on that isn't finite (`raise-infinity`, `raise-stuck`), and the greatest of all where
+-- all are finite (`raise-greatest`). Assumes nothing.
 use mathlib.Core.Path.{_≡_, refl, sym, ap, _∙_, subst}
 use mathlib.Core.Bool.{Bool, true, false, cond, _&&_, true≢false}
 use mathlib.Core.Logic.{⊎-elim}

@@ -1,4 +1,5 @@
--- The gains of a player are those of every change (`changes-law`), and each is an f64 (`gain-fits`). Assumes nothing.
+-- A list of changes has f(s)(t) for every s and every t ≠ s, and nothing else (`changes-law`): the
+-- gains of a player are such a list. Each gain is an f64 (`gain-fits`). Assumes nothing.
 use mathlib.Core.Path.{sym, subst}
 use mathlib.Core.Bool.{not}
 use mathlib.Core.List.{List, map, Memᴰ·map as to-map, Memᴰ·of-map as of-map}

@@ -1,4 +1,5 @@
--- The laws of this crate's definitions, which its own proofs and later ones cite: `Answer` and `Laws` are for callers.
+-- The laws of this crate's definitions, which its own proofs and later ones cite: `Greatest`,
+-- `Answer` and `Laws` are for callers.
 pub mod Gains
 pub mod Greatest
 pub mod Answer

@@ -1,4 +1,5 @@
--- The definitions of this crate: gains and the greatest of them, what the definitions say, and what the inner functions compute.
+-- The definitions of this crate: gains and the greatest of them, what the definitions say, and what
+-- the inner functions compute.
 pub mod Gains
 pub mod Meaning
 pub mod Inner

@@ -29,4 +29,4 @@ pub record Change {A : Type 0} (f : ℕ → ℕ → A) (count : ℕ) (x : A) : T
 
 -- a gain of a player: by some t ≠ s in place of s
 abbrev pub Gain : {I : Type 0} → (ℕ → I → Float) → (ℕ → I → Float) → List I → ℕ → Float → Type 0
-Gain weight payoff others = Change (gain weight payoff others)
+Gain weight payoff others count x = Change (gain weight payoff others) count x

@@ -1,27 +1,31 @@
--- A grid computed: the prisoner's dilemma, (2,2) (0,3) (3,0) (1,1). With all weight on 1 1 the answer
--- is 0, and 0 is strictly dominated by 1 for both players, so that `grid-dominated` says something of
--- it. With all weight on 0 0 either player gains 1, and the answer is 1.0. Assumes nothing.
+-- A grid computed: the prisoner's dilemma, (2,2) (0,3) (3,0) (1,1). With all weight on 1 1 the
+-- answer is 0, and 0 is strictly dominated by 1 for both players, so that `grid-dominated` says
+-- something of it. With all weight on 0 0 either player gains 1, and the answer is 1.0. Assumes
+-- nothing.
 use mathlib.Core.Path.{_≡_, refl}
 use mathlib.Core.Bool.{true}
 use mathlib.Core.List.{[], _∷_, flatMap}
 use Prim.Native.Nat.{ℕ, zero, suc, _+_, _*_, _<_}
 use native.Mathlib.Omega.{arith}
-use lib.Dec.{lit≤}
+use lib.Dec.{lit≤, lit<}
 use lib.IntN.{ℤ, pos, negsuc}
 use lib.ListN.{getD}
 use lib.Ieee as Ieee
-use lib.Ieee.{ofBits}
-use Rattle.game.specs.Game.{profiles, whole, others}
+use lib.Ieee.{ofBits, fits}
+use Rattle.game.specs.Game.{Game, profiles, whole, others}
 use Rattle.game.specs.Solution.{dominates}
+use Rattle.game.proofs.Solution.{dominates-law}
 use Rattle.payoff_order.specs.Order.{finite, key, rank}
 use Rattle.payoff_tables.specs.Table.{offset, payoffAt, tableGame}
+use Rattle.payoff_tables.specs.Meaning.{Doubles}
 use Rattle.sums.specs.Sums.{zero as nought, one}
 use Rattle.candidate_input.specs.Input.{wellFormed}
 use Rattle.gains.specs.Gains.{answerOf}
 use Rattle.candidates.specs.Checks.{entry, gains, incentives}
 use Rattle.candidates.proofs.Computed.{two, three, first, second, at-start, at-end}
 use Rattle.whole_numbers.specs.Gains.{GridPayoff, GridWeight, greatestWhole}
-use Rattle.grids.specs.Grid.{Grid, wholeGains, twoPlayers}
+use Rattle.grids.specs.Grid.{Grid, wholeGains, twoPlayers, Unweighted}
+use Rattle.grids.proofs.Grid.{grid-dominated}
 
 -- the payoffs and both weights in whole numbers
 U1 : ℕ → ℕ → ℤ
@@ -77,12 +81,35 @@ grid =
       weighted = weights-end;
     }
 
+-- the payoffs are f64s
+held1 : Doubles first
+unfolding first two three ofBits fits
+held1 zero = tt
+held1 (suc zero) = tt
+held1 (suc (suc zero)) = tt
+held1 (suc (suc (suc zero))) = tt
+held1 (suc (suc (suc (suc i)))) = tt
+
+held2 : Doubles second
+unfolding second two three ofBits fits
+held2 zero = tt
+held2 (suc zero) = tt
+held2 (suc (suc zero)) = tt
+held2 (suc (suc (suc zero))) = tt
+held2 (suc (suc (suc (suc i)))) = tt
+
+abbrev dilemma : Game
+dilemma = twoPlayers 2 2 first second
+
 record Computed : Type 0 where
   answer : incentives 2 2 first second at-end ≡ nought
   -- a change from 1 to 0 costs either player 1, which is 65,536 parts; one from 0 has no weight
   whole-gains : wholeGains 2 2 U1 U2 end ≡ pos 0 ∷ negsuc 65535 ∷ pos 0 ∷ negsuc 65535 ∷ []
-  dominated-row : dominates (twoPlayers 2 2 first second) (whole (twoPlayers 2 2 first second)) 0 1 0 ≡ true
-  dominated-column : dominates (twoPlayers 2 2 first second) (whole (twoPlayers 2 2 first second)) 1 1 0 ≡ true
+  dominated-row : dominates dilemma (whole dilemma) 0 1 0 ≡ true
+  dominated-column : dominates dilemma (whole dilemma) 1 1 0 ≡ true
+  -- so the theorem says that 0 has no weight
+  no-row : Unweighted (2 ∷ 2 ∷ []) at-end 0 0
+  no-column : Unweighted (2 ∷ 2 ∷ []) at-end 1 0
   -- with weight on the dominated 0 0
   other-answer : incentives 2 2 first second at-start ≡ one
   other-gains : wholeGains 2 2 U1 U2 start ≡ pos 65536 ∷ pos 0 ∷ pos 65536 ∷ pos 0 ∷ []
@@ -91,4 +118,14 @@ record Computed : Type 0 where
 computed : Computed
 unfolding flatMap Ieee.ofBits Ieee.toBits Ieee.add Ieee.sub Ieee.mul Ieee.neg Ieee.lt finite key rank wellFormed answerOf gains incentives first second at-end at-start two three U1 U2 end start profiles whole others dominates offset payoffAt tableGame
 computed =
-    record { answer = refl; whole-gains = refl; dominated-row = refl; dominated-column = refl; other-answer = refl; other-gains = refl; other-greatest = refl }
+    record {
+      answer = refl;
+      whole-gains = refl;
+      dominated-row = refl;
+      dominated-column = refl;
+      no-row = grid-dominated 2 2 first second at-end U1 U2 end grid held1 held2 refl 0 0 1 (lit< tt, tt, dominates-law dilemma (whole dilemma) 0 1 0 .0 tt);
+      no-column = grid-dominated 2 2 first second at-end U1 U2 end grid held1 held2 refl 1 0 1 (lit< tt, tt, dominates-law dilemma (whole dilemma) 1 1 0 .0 tt);
+      other-answer = refl;
+      other-gains = refl;
+      other-greatest = refl;
+    }

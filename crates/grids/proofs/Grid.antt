@@ -1,10 +1,14 @@
--- Whole-number grids, change N1 of the scope. Every gain, times 65,536, is the same sum in whole
--- numbers (`grid-gains`), and so is the answer (`grid-answer`). An answer of 0 puts no weight on a
--- strategy that is strictly dominated in the two-player table with those payoffs (`grid-dominated`).
--- All lists of such numbers, of the right lengths, are meant (`grid-some`). Assumes nothing.
-use mathlib.Core.Path.{_≡_, refl, sym, ap, _∙_, subst, subst₂}
-use mathlib.Core.Bool.{true, false}
-use mathlib.Core.List.{List, [], _∷_, _++_, Memᴰ·append-left as append-left, Memᴰ·append-right as append-right}
+-- Whole-number grids, change N1 of the scope. Each gain, times 65,536, is the same sum in whole
+-- numbers (`grid-row`, `grid-column`, and all of them `grid-gains`), and so is the answer
+-- (`grid-answer`). An answer of 0 puts no weight on a strategy that is strictly dominated in the
+-- two-player table with those payoffs (`grid-dominated`), which is dominance in the whole numbers
+-- (`grid-dominated-row`, `grid-dominated-column`); here the payoffs are f64s, as the elements of a
+-- slice are. An answer that is not above 0 is the 0 meant (`grid-zero`). Any lists of such numbers,
+-- of the right lengths, are a grid (`grid-some`). Assumes nothing.
+use mathlib.Core.Path.{_≡_, sym, ap, _∙_, subst}
+use mathlib.Core.Bool.{false, true≢false}
+use mathlib.Core.List.{List, [], _∷_, Memᴰ·append-left as append-left, Memᴰ·append-right as append-right}
+use mathlib.Core.Logic.{_↔_, _≢_, ⊎-elim}
 use Prim.Native.Nat.{ℕ, zero, suc, _+_, _*_, _<_, zero-le}
 use native.Mathlib.Nat.{not-suc-le-zero}
 use native.Mathlib.Omega.{arith}
@@ -13,13 +17,13 @@ use lib.Dec.{T, lit<}
 use lib.Arith.{digits-lt}
 use lib.IntN.{ℤ, pos, natAbs}
 use lib.ListN.{length, getD}
-use lib.Ieee.{Float, nan, lt, eq}
+use lib.Signed.{ltZ}
+use lib.Ieee.{Float, nan, lt}
 use Rattle.game.specs.Finite.{_∈_, all, below}
-use Rattle.game.specs.Game.{Game, whole}
+use Rattle.game.specs.Game.{whole}
 use Rattle.game.specs.Meaning.{Dominator}
-use Rattle.game.proofs.Game.{inside-whole}
 use Rattle.game.proofs.Finite.{test-true, all-T, below-mem, length-below}
-use Rattle.payoff_order.specs.Order.{finite, rank}
+use Rattle.payoff_order.specs.Order.{finite}
 use Rattle.payoff_tables.specs.Table.{tableGame}
 use Rattle.payoff_tables.specs.Meaning.{Doubles}
 use Rattle.payoff_tables.proofs.Offsets.{digits}
@@ -27,18 +31,19 @@ use Rattle.sums.specs.Sums.{zero as nought}
 use Rattle.candidate_input.specs.Input.{wellFormed}
 use Rattle.candidate_input.specs.Meaning.{Sized}
 use Rattle.candidate_input.proofs.Meaning.{well-formed-law}
-use Rattle.gains.specs.Gains.{gainsOf, answerOf}
+use Rattle.gains.specs.Gains.{gain, gainsOf, answerOf}
+use Rattle.gains.specs.Meaning.{Greatest}
 use Rattle.candidates.specs.Checks.{entry, gains, incentives}
 use Rattle.candidates.proofs.Laws.{incentives-law}
 use Rattle.whole_numbers.specs.Whole.{Times, AllTimes}
-use Rattle.whole_numbers.specs.Gains.{parts, GridPayoff, GridWeight, greatestWhole}
+use Rattle.whole_numbers.specs.Gains.{parts, GridPayoff, GridWeight, wholeGain, greatestWhole}
 use Rattle.whole_numbers.proofs.Exact.{lt-whole}
 use Rattle.whole_numbers.proofs.Numbers.{wholeOf, whole-of, finite-whole, zero-whole}
-use Rattle.whole_numbers.proofs.Gains.{gains-exact, times-append, times-finite, times-greatest, unweighted}
+use Rattle.whole_numbers.proofs.Gains.{one-gain, gains-exact, times-append, times-finite, times-greatest}
 use Rattle.grids.specs.Grid.{Grid, wholeGains, twoPlayers, Unweighted}
-use Rattle.grids.proofs.Pairs.{first-at, second-at, two-profile, row-law, column-law}
+use Rattle.grids.proofs.Sides.{side-order, side-dominated}
+use Rattle.grids.proofs.Pairs.{rows, columns}
 
--- tables of whole numbers and multiples, whichever they are
 pub grid-some : (m n : ℕ) (u1 u2 weights : List Float) → Sized m n → length u1 ≡ m * n → length u2 ≡ m * n → length weights ≡ m * n
     → ((k : ℕ) → k < length u1 → (z : ℤ) × GridPayoff (getD u1 k nan) z) → ((k : ℕ) → k < length u2 → (z : ℤ) × GridPayoff (getD u2 k nan) z)
     → ((k : ℕ) → k < length weights → (w : ℕ) × GridWeight (getD weights k nan) w)
@@ -103,14 +108,32 @@ module _ (m n : ℕ) (u1 u2 weights : List Float) (U1 U2 : ℕ → ℕ → ℤ) 
             (λ i j I J. lt-whole parts (lit< tt) _ nought _ (pos 0) (grid .weighted i j I J .whole) (zero-whole parts) ∙ le-ltb (W i j) 0 zero-le);
       })
 
+  -- payoffs and weights by the own strategy and the others' choice
+  row-weights : (i : ℕ) → i < m → (j : ℕ) → j ∈ below n → GridWeight (entry n weights i j) (W i j)
+  row-weights i I j h = grid .weighted i j I (below-mem n j .0 h)
+
+  row-payoffs : (i : ℕ) → i < m → (j : ℕ) → j ∈ below n → GridPayoff (entry n u1 i j) (U1 i j)
+  row-payoffs i I j h = grid .first i j I (below-mem n j .0 h)
+
+  column-weights : (j : ℕ) → j < n → (i : ℕ) → i ∈ below m → GridWeight (entry n weights i j) (W i j)
+  column-weights j J i h = grid .weighted i j (below-mem m i .0 h) J
+
+  column-payoffs : (j : ℕ) → j < n → (i : ℕ) → i ∈ below m → GridPayoff (entry n u2 i j) (U2 i j)
+  column-payoffs j J i h = grid .second i j (below-mem m i .0 h) J
+
   pub grid-gains : AllTimes parts (gains m n u1 u2 weights) (wholeGains m n U1 U2 W)
   unfolding gains
   grid-gains =
       times-append parts
-      (gains-exact (λ i j. entry n weights i j) (λ i j. entry n u1 i j) (below n) W U1 m
-      (λ i I j h. grid .weighted i j I (below-mem n j .0 h)) (λ i I j h. grid .first i j I (below-mem n j .0 h)) few-columns)
-      (gains-exact (λ j i. entry n weights i j) (λ j i. entry n u2 i j) (below m) (λ j i. W i j) (λ j i. U2 i j) n
-      (λ j J i h. grid .weighted i j (below-mem m i .0 h) J) (λ j J i h. grid .second i j (below-mem m i .0 h) J) few-rows)
+      (gains-exact (λ i j. entry n weights i j) (λ i j. entry n u1 i j) (below n) W U1 m row-weights row-payoffs few-columns)
+      (gains-exact (λ j i. entry n weights i j) (λ j i. entry n u2 i j) (below m) (λ j i. W i j) (λ j i. U2 i j) n column-weights column-payoffs few-rows)
+
+  -- the answer is the greatest gain, or +0.0
+  law : Greatest (gains m n u1 u2 weights) (incentives m n u1 u2 weights)
+  law = incentives-law m n u1 u2 weights grid-formed (all-T finite (gains m n u1 u2 weights) .0 (times-finite parts grid-gains))
+
+  not-above : incentives m n u1 u2 weights ≡ nought → (x : Float) → x ∈ gains m n u1 u2 weights → lt nought x ≡ false
+  not-above answer x h = ap (λ (a : Float). lt a x) (sym answer) ∙ law .top x h
 
   pub grid-answer : Times parts (incentives m n u1 u2 weights) (greatestWhole (wholeGains m n U1 U2 W))
   unfolding incentives answerOf
@@ -119,52 +142,56 @@ module _ (m n : ℕ) (u1 u2 weights : List Float) (U1 U2 : ℕ → ℕ → ℤ) 
       rw (test-true (wellFormed m n u1 u2 weights) grid-formed, test-true (all finite gs) (times-finite parts grid-gains))
       (times-greatest parts (lit< tt) nought (pos 0) (zero-whole parts) grid-gains)
 
-  -- ---- an answer of 0
+  -- each gain by itself: of row k in place of row i, and of column k in place of column j
+  pub grid-row : (i k : ℕ) → i < m → k < m
+      → Times parts (gain (λ i j. entry n weights i j) (λ i j. entry n u1 i j) (below n) i k) (wholeGain W U1 (below n) i k)
+  grid-row i k I K =
+      one-gain (λ i j. entry n weights i j) (λ i j. entry n u1 i j) (below n) W U1 m row-weights row-payoffs few-columns i k I K
 
-  module _ (held1 : Doubles u1) (held2 : Doubles u2) (answer : incentives m n u1 u2 weights ≡ nought) where
-    -- the gains of player 1 and of player 2, none of which is above 0
-    rows : List Float
-    rows = gainsOf (λ i j. entry n weights i j) (λ i j. entry n u1 i j) (below n) m
+  pub grid-column : (j k : ℕ) → j < n → k < n
+      → Times parts (gain (λ j i. entry n weights i j) (λ j i. entry n u2 i j) (below m) j k) (wholeGain (λ j i. W i j) (λ j i. U2 i j) (below m) j k)
+  grid-column j k J K =
+      one-gain (λ j i. entry n weights i j) (λ j i. entry n u2 i j) (below m) (λ j i. W i j) (λ j i. U2 i j) n column-weights column-payoffs few-rows j k J K
 
-    columns : List Float
-    columns = gainsOf (λ j i. entry n weights i j) (λ j i. entry n u2 i j) (below m) n
+  -- an answer that is not above 0 is +0.0
+  pub grid-zero : lt nought (incentives m n u1 u2 weights) ≡ false → incentives m n u1 u2 weights ≡ nought
+  grid-zero h = ⊎-elim (λ e. e) (λ above. absurd (true≢false (sym (above .1) ∙ h))) (law .found)
 
-    not-above : (x : Float) → x ∈ rows ++ columns → lt nought x ≡ false
-    unfolding gains rows columns
-    not-above x h =
-        ap (λ (a : Float). lt a x) (sym answer)
-        ∙ incentives-law m n u1 u2 weights grid-formed (all-T finite (gains m n u1 u2 weights) .0 (times-finite parts grid-gains)) .top x h
+  -- ---- dominance
 
-    same : length u1 ≡ length u2
-    same = grid .long-first ∙ sym (grid .long-second)
+  same : length u1 ≡ length u2
+  same = grid .long-first ∙ sym (grid .long-second)
 
-    abbrev g : Game
-    g = twoPlayers m n u1 u2
+  module _ (held1 : Doubles u1) (held2 : Doubles u2) where
+    -- a row is strictly dominated by another that has more in every column, a column by another
+    -- that has more in every row
+    pub grid-dominated-row : (s t : ℕ) → s < m
+        → Dominator (twoPlayers m n u1 u2) (whole (twoPlayers m n u1 u2)) 0 s t ↔ ((t < m) × (t ≢ s) × ((j : ℕ) → j < n → T (ltZ (U1 s j) (U1 t j))))
+    grid-dominated-row s t S =
+        let (there, back) =
+        side-order (twoPlayers m n u1 u2) weights 0 m (below n) (λ i j. i ∷ j ∷ []) (λ i j. entry n weights i j) (λ i j. entry n u1 i j)
+        (rows m n u1 u2 weights same) W U1 (λ i j. held1 (i * n + j)) row-payoffs s t S in
+        (λ d. let (l, apart, more) = there d in (l, apart, λ j J. more j (below-mem n j .1 J)), λ (l, apart, more). back (l, apart, λ j h. more j (below-mem n j .0 h)))
 
-    row-unweighted : (s t : ℕ) → s < m → Dominator g (whole g) 0 s t → (j : ℕ) → j < n → eq (entry n weights s j) nought ≡ true
-    unfolding tableGame rows
-    row-unweighted s t S (T′, _, (apart, better)) j J =
-        unweighted (λ i j. entry n weights i j) (λ i j. entry n u1 i j) (below n) W U1 m (λ i I j h. grid .weighted i j I (below-mem n j .0 h))
-        (λ i I j h. grid .first i j I (below-mem n j .0 h)) few-columns (λ i j. held1 (i * n + j)) (λ x h. not-above x (append-left columns h))
-        s t S T′ apart
-        (λ j h.
-        let r = two-profile m n s j S (below-mem n j .0 h) in
-        subst₂ _<_ (ap rank (first-at m n u1 u2 same s j)) (ap rank (first-at m n u1 u2 same t j)) (better (s ∷ j ∷ []) r (λ q Q _. inside-whole g (s ∷ j ∷ []) r q Q)))
-        j (below-mem n j .1 J)
+    pub grid-dominated-column : (s t : ℕ) → s < n
+        → Dominator (twoPlayers m n u1 u2) (whole (twoPlayers m n u1 u2)) 1 s t ↔ ((t < n) × (t ≢ s) × ((i : ℕ) → i < m → T (ltZ (U2 i s) (U2 i t))))
+    grid-dominated-column s t S =
+        let (there, back) =
+        side-order (twoPlayers m n u1 u2) weights 1 n (below m) (λ j i. i ∷ j ∷ []) (λ j i. entry n weights i j) (λ j i. entry n u2 i j)
+        (columns m n u1 u2 weights same) (λ j i. W i j) (λ j i. U2 i j) (λ j i. held2 (i * n + j)) column-payoffs s t S in
+        (λ d. let (l, apart, more) = there d in (l, apart, λ i I. more i (below-mem m i .1 I)), λ (l, apart, more). back (l, apart, λ i h. more i (below-mem m i .0 h)))
 
-    column-unweighted : (s t : ℕ) → s < n → Dominator g (whole g) 1 s t → (i : ℕ) → i < m → eq (entry n weights i s) nought ≡ true
-    unfolding tableGame columns
-    column-unweighted s t S (T′, _, (apart, better)) i I =
-        unweighted (λ j i. entry n weights i j) (λ j i. entry n u2 i j) (below m) (λ j i. W i j) (λ j i. U2 i j) n
-        (λ j J i h. grid .weighted i j (below-mem m i .0 h) J) (λ j J i h. grid .second i j (below-mem m i .0 h) J) few-rows (λ j i. held2 (i * n + j))
-        (λ x h. not-above x (append-right rows h)) s t S T′ apart
-        (λ i h.
-        let r = two-profile m n i s (below-mem m i .0 h) S in
-        subst₂ _<_ (ap rank (second-at m n u1 u2 same i s)) (ap rank (second-at m n u1 u2 same i t)) (better (i ∷ s ∷ []) r (λ q Q _. inside-whole g (i ∷ s ∷ []) r q Q)))
-        i (below-mem m i .1 I)
+    -- ---- an answer of 0
 
-    pub grid-dominated : (p s t : ℕ) → Dominator (twoPlayers m n u1 u2) (whole (twoPlayers m n u1 u2)) p s t → Unweighted (m ∷ n ∷ []) weights p s
-    unfolding tableGame
-    grid-dominated zero s t d = row-law m n weights s .1 (λ S. row-unweighted s t S d)
-    grid-dominated (suc zero) s t d = column-law m n weights s .1 (λ S. column-unweighted s t S d)
-    grid-dominated (suc (suc p)) s t d = absurd (not-suc-le-zero (d .0))
+    pub grid-dominated : incentives m n u1 u2 weights ≡ nought → (p s t : ℕ) → Dominator (twoPlayers m n u1 u2) (whole (twoPlayers m n u1 u2)) p s t
+        → Unweighted (m ∷ n ∷ []) weights p s
+    unfolding tableGame gains
+    grid-dominated answer zero s t d =
+        side-dominated (twoPlayers m n u1 u2) weights 0 m (below n) (λ i j. i ∷ j ∷ []) (λ i j. entry n weights i j) (λ i j. entry n u1 i j)
+        (rows m n u1 u2 weights same) W U1 (λ i j. held1 (i * n + j)) row-payoffs row-weights few-columns
+        (λ x h. not-above answer x (append-left _ h)) s t d
+    grid-dominated answer (suc zero) s t d =
+        side-dominated (twoPlayers m n u1 u2) weights 1 n (below m) (λ j i. i ∷ j ∷ []) (λ j i. entry n weights i j) (λ j i. entry n u2 i j)
+        (columns m n u1 u2 weights same) (λ j i. W i j) (λ j i. U2 i j) (λ j i. held2 (i * n + j)) column-payoffs column-weights few-rows
+        (λ x h. not-above answer x (append-right (gainsOf (λ i j. entry n weights i j) (λ i j. entry n u1 i j) (below n) m) h)) s t d
+    grid-dominated answer (suc (suc p)) s t d = absurd (not-suc-le-zero (d .0))

@@ -1,4 +1,5 @@
 -- The laws of this crate's definitions.
+pub mod Sides
 pub mod Pairs
 pub mod Grid
 pub mod Listed

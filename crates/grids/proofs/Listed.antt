@@ -1,7 +1,8 @@
--- Within a table's limits the two tables side by side are an accepted table (`grid-accepted`), so
--- that `strictly_dominated_strategies` lists the strategies of `grid-dominated`; and an answer of 0
--- puts no weight on a strategy that it writes (`grid-listed`). Assumes nothing.
-use mathlib.Core.Path.{_≡_, sym, ap, _∙_, subst}
+-- Within a table's limits the two tables side by side are an accepted table (`grid-accepted`). What
+-- `strictly_dominated_strategies` lists of it are, by `dominated-meaning` of `dominance`, just the
+-- strategies with a dominator as in `grid-dominated`; and an answer of 0 puts no weight on a
+-- strategy that it writes (`grid-listed`). Assumes nothing.
+use mathlib.Core.Path.{_≡_, sym, _∙_, subst}
 use mathlib.Core.List.{List, [], _∷_, Memᴰ·of-map as of-map}
 use mathlib.Core.Option.{none}
 use Prim.Native.Nat.{ℕ, zero, suc, _+_, _*_, _≤_, _<_}
@@ -17,9 +18,8 @@ use Rattle.game.proofs.Finite.{take-mem}
 use Rattle.payoff_order.specs.Order.{finite}
 use Rattle.written_lists.specs.Outputs.{written}
 use Rattle.payoff_tables.specs.Limits.{maxStrategies}
-use Rattle.payoff_tables.specs.Table.{tableGame}
 use Rattle.payoff_tables.specs.Checks.{tableRefusal}
-use Rattle.payoff_tables.specs.Meaning.{Doubles, Shape, Table}
+use Rattle.payoff_tables.specs.Meaning.{Doubles, Shape}
 use Rattle.payoff_tables.proofs.Checks.{table-law}
 use Rattle.payoff_tables.proofs.Offsets.{digits}
 use Rattle.dominance.specs.Answers.{DominatedStrategy, strategiesOf, dominatedStrategies, dominatedAnswer, dominatedWritten}

@@ -1,7 +1,7 @@
--- The two-player table with given payoffs has them at their cells (`first-at`, `second-at`). That
--- weights put nothing on a strategy says it of a row, or of a column (`row-law`, `column-law`).
--- Assumes nothing.
-use mathlib.Core.Path.{_≡_, refl, sym, ap, _∙_, subst}
+-- The two-player table with given payoffs has them at their cells (`first-at`, `second-at`), and
+-- its players are two sides (`rows`, `columns`). That weights put nothing on a strategy says it of
+-- a row, or of a column (`row-law`, `column-law`). Assumes nothing.
+use mathlib.Core.Path.{_≡_, refl, ap, _∙_}
 use mathlib.Core.Bool.{true}
 use mathlib.Core.List.{List, [], _∷_}
 use mathlib.Core.Logic.{_↔_}
@@ -10,11 +10,15 @@ use native.Mathlib.Omega.{arith}
 use lib.Dec.{lit<}
 use lib.ListN.{length, getD}
 use lib.Ieee.{Float, nan, eq}
+use Rattle.game.specs.Finite.{below}
 use Rattle.game.specs.Game.{choice, Profile}
-use Rattle.payoff_tables.specs.Table.{offset, payoffAt}
+use Rattle.game.proofs.Finite.{below-mem}
+use Rattle.payoff_order.specs.Order.{rank}
+use Rattle.payoff_tables.specs.Table.{offset, payoffAt, tableGame}
 use Rattle.sums.specs.Sums.{zero as nought}
 use Rattle.candidates.specs.Checks.{entry}
-use Rattle.grids.specs.Grid.{paired, Unweighted}
+use Rattle.grids.specs.Grid.{paired, twoPlayers, Unweighted}
+use Rattle.grids.proofs.Sides.{Side, side-law}
 
 twice : (k p : ℕ) → suc k * 2 + p ≡ suc (suc (k * 2 + p))
 twice k p = omega arith
@@ -51,8 +55,8 @@ module _ (m n : ℕ) where
     unfolding payoffAt
     second-at = ap (λ (k : ℕ). getD (paired u1 u2) (k * 2 + 1) nan) (place i j) ∙ second-of u1 u2 (i * n + j) e
 
-  -- row i and column j make a profile
-  pub two-profile : (i j : ℕ) → i < m → j < n → Profile (m ∷ n ∷ []) (i ∷ j ∷ [])
+  -- row i and column j make a profile, and every profile is one
+  two-profile : (i j : ℕ) → i < m → j < n → Profile (m ∷ n ∷ []) (i ∷ j ∷ [])
   two-profile i j I J = record { each = refl; fits = each }
     where
       each : (p : ℕ) → p < 2 → choice (i ∷ j ∷ []) p < getD (m ∷ n ∷ []) p 0
@@ -60,32 +64,55 @@ module _ (m n : ℕ) where
       each (suc zero) h = J
       each (suc (suc p)) h = absurd (omega arith)
 
-  -- and every profile is one
-  of-two : (P : List ℕ → Type 0) → ((i j : ℕ) → i < m → j < n → P (i ∷ j ∷ [])) → (x : List ℕ) → Profile (m ∷ n ∷ []) x → P x
-  of-two P h [] r = absurd (omega (arith, r .each))
-  of-two P h (i ∷ []) r = absurd (omega (arith, r .each))
-  of-two P h (i ∷ j ∷ []) r = h i j (r .fits 0 (lit< tt)) (r .fits 1 (lit< tt))
-  of-two P h (i ∷ j ∷ k ∷ x) r = absurd (omega (arith, r .each))
+  of-two : (x : List ℕ) → Profile (m ∷ n ∷ []) x → (i : ℕ) × (j : ℕ) × (i < m) × (j < n) × (i ∷ j ∷ [] ≡ x)
+  of-two [] r = absurd (omega (arith, r .each))
+  of-two (i ∷ []) r = absurd (omega (arith, r .each))
+  of-two (i ∷ j ∷ []) r = (i, j, r .fits 0 (lit< tt), r .fits 1 (lit< tt), refl)
+  of-two (i ∷ j ∷ k ∷ x) r = absurd (omega (arith, r .each))
 
+  module _ (u1 u2 weights : List Float) (e : length u1 ≡ length u2) where
+    -- player 0, who has the rows
+    pub rows : Side (twoPlayers m n u1 u2) weights 0 m (below n) (λ i j. i ∷ j ∷ []) (λ i j. entry n weights i j) (λ i j. entry n u1 i j)
+    unfolding tableGame
+    rows =
+        record {
+          counted = refl;
+          profile = λ i j I J. two-profile i j I (below-mem n j .0 J);
+          found = λ x r. let (i, j, I, J, e) = of-two x r in (i, j, I, below-mem n j .1 J, e);
+          chosen = λ i j. refl;
+          changed = λ i k j. refl;
+          pays = λ i j. ap rank (first-at u1 u2 e i j);
+          weighs = λ i j. ap (λ (k : ℕ). getD weights k nan) (place i j);
+        }
+
+    -- player 1, who has the columns
+    pub columns : Side (twoPlayers m n u1 u2) weights 1 n (below m) (λ j i. i ∷ j ∷ []) (λ j i. entry n weights i j) (λ j i. entry n u2 i j)
+    unfolding tableGame
+    columns =
+        record {
+          counted = refl;
+          profile = λ j i J I. two-profile i j (below-mem m i .0 I) J;
+          found = λ x r. let (i, j, I, J, e) = of-two x r in (j, i, J, below-mem m i .1 I, e);
+          chosen = λ j i. refl;
+          changed = λ j k i. refl;
+          pays = λ j i. ap rank (second-at u1 u2 e i j);
+          weighs = λ j i. ap (λ (k : ℕ). getD weights k nan) (place i j);
+        }
+
+  -- no weight on a strategy is no weight in its row, or in its column
   module _ (weights : List Float) (s : ℕ) where
-    at-place : (i j : ℕ) → eq (entry n weights i j) nought ≡ true ↔ eq (getD weights (offset (m ∷ n ∷ []) (i ∷ j ∷ [])) nan) nought ≡ true
-    at-place i j = (
-      λ h. ap (λ (k : ℕ). eq (getD weights k nan) nought) (place i j) ∙ h,
-      λ h. ap (λ (k : ℕ). eq (getD weights k nan) nought) (sym (place i j)) ∙ h,
-    )
-
     pub row-law : Unweighted (m ∷ n ∷ []) weights 0 s ↔ (s < m → (j : ℕ) → j < n → eq (entry n weights s j) nought ≡ true)
-    row-law = (
-      λ h l j J. at-place s j .1 (h (s ∷ j ∷ []) (two-profile s j l J) refl),
-      λ h.
-          of-two (λ x. choice x 0 ≡ s → eq (getD weights (offset (m ∷ n ∷ []) x) nan) nought ≡ true)
-          (λ i j I J e. at-place i j .0 (subst (λ (k : ℕ). eq (entry n weights k j) nought ≡ true) (sym e) (h (subst (λ (k : ℕ). k < m) e I) j J))),
-    )
+    unfolding tableGame
+    row-law =
+        let (there, back) =
+        side-law (twoPlayers m n [] []) weights 0 m (below n) (λ i j. i ∷ j ∷ []) (λ i j. entry n weights i j) (λ i j. entry n [] i j)
+        (rows [] [] weights refl) s in
+        (λ h l j J. there h l j (below-mem n j .1 J), λ h. back (λ l j J. h l j (below-mem n j .0 J)))
 
     pub column-law : Unweighted (m ∷ n ∷ []) weights 1 s ↔ (s < n → (i : ℕ) → i < m → eq (entry n weights i s) nought ≡ true)
-    column-law = (
-      λ h l i I. at-place i s .1 (h (i ∷ s ∷ []) (two-profile i s I l) refl),
-      λ h.
-          of-two (λ x. choice x 1 ≡ s → eq (getD weights (offset (m ∷ n ∷ []) x) nan) nought ≡ true)
-          (λ i j I J e. at-place i j .0 (subst (λ (k : ℕ). eq (entry n weights i k) nought ≡ true) (sym e) (h (subst (λ (k : ℕ). k < n) e J) i I))),
-    )
+    unfolding tableGame
+    column-law =
+        let (there, back) =
+        side-law (twoPlayers m n [] []) weights 1 n (below m) (λ j i. i ∷ j ∷ []) (λ j i. entry n weights i j) (λ j i. entry n [] i j)
+        (columns [] [] weights refl) s in
+        (λ h l i I. there h l i (below-mem m i .1 I), λ h. back (λ l i I. h l i (below-mem m i .0 I)))

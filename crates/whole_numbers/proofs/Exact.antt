@@ -1,7 +1,8 @@
--- Sums, differences and products of f64s that are whole numbers when multiplied by a power of 2 are
--- exact, where the result is below 2^53: `add-exact`, `sub-exact`, `mul-exact`. True because what is
--- rounded there is an f64 already. There is one such whole number (`times-once`), and f64s compare
--- as their whole numbers do (`lt-whole`). Assumes nothing.
+-- Sums, differences and products of f64s that are whole numbers when multiplied by a power of 2, to
+-- 2^1,074, are exact where the whole number of the result is below 2^53 in size: `add-exact`,
+-- `sub-exact`, `mul-exact`. True because what is rounded there is an f64 already. An f64 has one
+-- such whole number (`times-once`), and is less than another where its number is (`lt-whole`).
+-- Assumes nothing.
 use mathlib.Core.Path.{_≡_, refl, sym, ap, ap₂, _∙_, subst, subst₂}
 use mathlib.Core.Logic.{⊎-elim}
 use mathlib.Core.Bool.{Bool, true, false, not, cond, _&&_}
@@ -23,7 +24,7 @@ use Rattle.whole_numbers.proofs.Integers.{size-signed, signed-not, sign
 -- ---- a value by its sign and size, and by the whole number
 
 -- the sign and the size
-pub of-value : (x : Float) (s : Bool) (a d : ℕ) → HasValue x s a d → Times d x (signed s a)
+of-value : (x : Float) (s : Bool) (a d : ℕ) → HasValue x s a d → Times d x (signed s a)
 of-value nan s a d h = h
 of-value (inf t) s a d h = h
 of-value (fin t m e) s a d (p, q) = ap₂ signed p q ∙ sym (signed-scale s a (down e))
@@ -80,10 +81,10 @@ neg-times d (inf s) z h = h
 neg-times d (fin s m e) z h = sym (signed-not s (m * up e * d)) ∙ ap negℤ h ∙ sym (neg-scale z (down e))
 
 -- the numerators over the common denominator
-over-first : (x d g n a : ℕ) → x * n ≡ a * d → x * g * n ≡ a * (d * g)
+pub over-first : (x d g n a : ℕ) → x * n ≡ a * d → x * g * n ≡ a * (d * g)
 over-first x d g n a h = mul-right-comm x g n ∙ ap (λ (i : ℕ). i * g) h ∙ mul-assoc a d g
 
-over-second : (y d g n b : ℕ) → y * n ≡ b * g → y * d * n ≡ b * (d * g)
+pub over-second : (y d g n b : ℕ) → y * n ≡ b * g → y * d * n ≡ b * (d * g)
 over-second y d g n b h = over-first y g d n b h ∙ ap (λ (i : ℕ). b * i) (mul-comm g d)
 
 -- fractions x / d and y / d that are a / n and b / n compare as a and b do
@@ -120,7 +121,7 @@ sum-unlike false x y den = refl
 
 module _ (n : ℕ) (fine : n ≤ low binary64) where
   -- num / den is a / 2^n
-  pub round-whole : (s : Bool) (num den a : ℕ) → 0 < den → a < 2 ^ prec binary64 → num * 2 ^ n ≡ a * den → HasValue (round binary64 s num den) s a (2 ^ n)
+  round-whole : (s : Bool) (num den a : ℕ) → 0 < den → a < 2 ^ prec binary64 → num * 2 ^ n ≡ a * den → HasValue (round binary64 s num den) s a (2 ^ n)
   round-whole s num den a D small h =
       let j = low binary64 - n in
       let back : n + j ≡ low binary64 = omega arith in

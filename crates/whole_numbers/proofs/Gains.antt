@@ -1,11 +1,12 @@
 -- The gains of payoffs that are whole numbers to 2^20, under weights in parts of 1/65,536, are
--- exact: one gain where the weights of its strategy together are below 65,536 (`gain-exact`), as
--- those of fewer than 65,536 others' choices are (`few-weights`); all gains of a player with so few
--- (`gains-exact`); and the greatest (`times-greatest`), of which `greatest-whole-law` says what it
--- is. Lists are compared element by element (`all-times-law`). Where no gain is above 0, a strategy
--- has no weight if another one pays more against every choice of the others (`unweighted`): its gain
--- in whole numbers is at least its weight. Every whole number in range is a payoff, and every number
--- of parts a weight (`payoff-some`, `weight-some`). Assumes nothing.
+-- exact: a gain where the weights of its strategy together are below 65,536 (`gain-exact`), as
+-- those of fewer than 65,536 others' choices are (`few-weights`); each and all gains of a player
+-- with so few (`one-gain`, `gains-exact`); and the greatest (`times-greatest`), of which
+-- `greatest-whole-law` says what it is. Lists are compared element by element (`all-times-law`).
+-- Where no gain is above 0, a strategy has no weight if another one pays more against every choice
+-- of the others (`unweighted`): the gain in whole numbers is at least its weight. Every whole
+-- number in range is a payoff, and every number of parts a weight (`payoff-some`, `weight-some`).
+-- Ranks of payoffs compare as whole numbers do (`rank-whole`). Assumes nothing.
 use mathlib.Core.Path.{_≡_, refl, sym, ap, _∙_, subst}
 use mathlib.Core.Bool.{Bool, true, false, not, cond}
 use mathlib.Core.List.{List, [], _∷_, _++_, map, flatMap, List·Memᴰ·head as here, List·Memᴰ·tail as there, List·Memᴰ·not-nil as not-in-nil, List·Memᴰ·cases-cons as in-cons}
@@ -13,8 +14,8 @@ use mathlib.Core.Logic.{_↔_, ⊎-elim}
 use Prim.Native.Nat.{ℕ, zero, suc, _+_, _*_, _^_, _≤_, _<_, zero-le}
 use native.Mathlib.Nat.{mul-le-mul-left}
 use native.Mathlib.Omega.{arith}
-use borrow.Author.Tests.{ltb-false, lt-ltb}
-use lib.Dec.{T, eqb, lit≤, lit<}
+use borrow.Author.Tests.{ltb-false}
+use lib.Dec.{T, ltb, eqb, lit≤, lit<}
 use lib.IntN.{ℤ, pos, negℤ, natAbs, _-ℤ_, _*ℤ_}
 use lib.ListN.{length, getD}
 use lib.Signed.{ltZ}
@@ -37,13 +38,9 @@ use Rattle.whole_numbers.proofs.Sums.{total, products-exact}
 
 -- ---- payoffs
 
--- payoffs whose ranks are in order
-ordered : (x y : Float) (a b : ℤ) → T (fits binary64 x) → T (fits binary64 y) → GridPayoff x a → GridPayoff y b → rank x < rank y → T (ltZ a b)
-ordered x y a b h k p q l =
-    subst T
-    (sym (lt-ltb (rank x) (rank y) l)
-    ∙ sym (lt-rank x y h k (finite-whole 1 x a (p .whole)) (finite-whole 1 y b (q .whole)))
-    ∙ lt-whole 1 (lit< tt) x y a b (p .whole) (q .whole)) tt
+-- ranks compare as whole numbers do
+pub rank-whole : (x y : Float) (a b : ℤ) → T (fits binary64 x) → T (fits binary64 y) → Times 1 x a → Times 1 y b → ltb (rank x) (rank y) ≡ ltZ a b
+rank-whole x y a b h k p q = sym (lt-rank x y h k (finite-whole 1 x a p) (finite-whole 1 y b q)) ∙ lt-whole 1 (lit< tt) x y a b p q
 
 -- every whole number to 2^20 is a payoff, and every number of parts to 65,536 a weight
 pub payoff-some : (z : ℤ) → natAbs z ≤ maxPayoff → (x : Float) × T (fits binary64 x) × GridPayoff x z
@@ -101,8 +98,8 @@ module _ {I : Type 0} (weight payoff : ℕ → I → Float) (others : List I) (w
       (λ o h. sub-exact 0 zero-le (payoff t o) (payoff s o) (u t o) (u s o) (new o h .whole) (old o h .whole) (omega (arith, change o h)))
       (omega (arith, sizes (w s) (λ o. u t o -ℤ u s o) others change))
 
-  -- where t pays more than s against every choice of the others, a gain that is not above 0 leaves s
-  -- no weight
+  -- where t pays more than s against every choice of the others, a gain that is not above 0 leaves
+  -- s no weight
   no-weight : total (w s) others < 2 ^ 32 → ((o : I) → o ∈ others → T (ltZ (u s o) (u t o)))
       → lt nought (gain weight payoff others s t) ≡ false → (o : I) → o ∈ others → w s o ≡ 0
   no-weight small better e =
@@ -173,7 +170,7 @@ module _ (d : ℕ) where
       either true = t
       either false = k
 
--- the greatest of a list is one that no other exceeds, or 0
+-- no number of a list exceeds its greatest, which is 0, or one of them and above 0
 pub greatest-whole-law : (zs : List ℤ) → GreatestFrom ltZ (pos 0) zs (greatestWhole zs)
 greatest-whole-law zs =
     greatest-from-law ltZ (λ _. Unit {0}) (λ x y _ _. lt-one-way x y) (λ x y z _ _ _. not-lt-joined x y z) (pos 0) zs tt (λ _ _. tt)
@@ -185,24 +182,23 @@ module _ {I : Type 0} (weight payoff : ℕ → I → Float) (others : List I) (w
   small : (s : ℕ) → s < count → total (w s) others < 2 ^ 32
   small s l = few-weights (w s) others (λ o h. weighted s l o h .most) few
 
-  -- every gain
-  pub gains-exact : AllTimes parts (changes (gain weight payoff others) count) (changes (wholeGain w u others) count)
-  gains-exact =
-      times-changes parts (gain weight payoff others) (wholeGain w u others) count
-      (λ s t l m. gain-exact weight payoff others w u s t (λ o h. weighted s l o h .whole) (paid s l) (paid t m) (small s l))
+  -- each gain
+  pub one-gain : (s t : ℕ) → s < count → t < count → Times parts (gain weight payoff others s t) (wholeGain w u others s t)
+  one-gain s t l m = gain-exact weight payoff others w u s t (λ o h. weighted s l o h .whole) (paid s l) (paid t m) (small s l)
 
-  -- where no gain is above 0, a strategy has no weight if another one pays more against every choice
-  -- of the others
-  pub unweighted : ((s : ℕ) (o : I) → T (fits binary64 (payoff s o))) → ((x : Float) → x ∈ changes (gain weight payoff others) count → lt nought x ≡ false)
-      → (s t : ℕ) → s < count → t < count → (t ≡ s → ⊥) → ((o : I) → o ∈ others → rank (payoff s o) < rank (payoff t o))
+  -- the list of them
+  pub gains-exact : AllTimes parts (changes (gain weight payoff others) count) (changes (wholeGain w u others) count)
+  gains-exact = times-changes parts (gain weight payoff others) (wholeGain w u others) count one-gain
+
+  -- where no gain is above 0, a strategy has no weight if another one pays more against every
+  -- choice of the others
+  pub unweighted : ((x : Float) → x ∈ changes (gain weight payoff others) count → lt nought x ≡ false)
+      → (s t : ℕ) → s < count → t < count → (t ≡ s → ⊥) → ((o : I) → o ∈ others → T (ltZ (u s o) (u t o)))
       → (o : I) → o ∈ others → eq (weight s o) nought ≡ true
-  unweighted held top s t l m apart better o h =
+  unweighted top s t l m apart better o h =
+      let x = gain weight payoff others s t in
       nothing-whole parts (lit< tt) (weight s o)
       (subst (λ (k : ℕ). Times parts (weight s o) (pos k))
-      (no-weight weight payoff others w u s t (λ o h. weighted s l o h .whole) (paid s l) (paid t m) (small s l)
-      (λ o h. ordered (payoff s o) (payoff t o) (u s o) (u t o) (held s o) (held t o) (paid s l o h) (paid t m o h) (better o h))
-      (top (gain weight payoff others s t)
-      (changes-law (gain weight payoff others) count (gain weight payoff others s t) .1
-      (record { from = s; to = t; strategy = l; change = m; another = apart; is = refl })))
-      o h)
+      (no-weight weight payoff others w u s t (λ o h. weighted s l o h .whole) (paid s l) (paid t m) (small s l) better
+      (top x (changes-law (gain weight payoff others) count x .1 (record { from = s; to = t; strategy = l; change = m; another = apart; is = refl }))) o h)
       (weighted s l o h .whole))

@@ -85,14 +85,14 @@ cancel (negsuc a) (negsuc b) d h e =
 -- ---- sums
 
 -- a − b
-pub minus-less : (a b : ℕ) → a < b → pos a +ℤ negℤ (pos b) ≡ negℤ (pos (b - a))
+minus-less : (a b : ℕ) → a < b → pos a +ℤ negℤ (pos b) ≡ negℤ (pos (b - a))
 minus-less a zero h = absurd (not-suc-le-zero h)
 minus-less a (suc b) h = rw (lt-ltb a (suc b) h, past a b h)
   where
     past : (a b : ℕ) → a < suc b → suc b - a ≡ suc (suc b - suc a)
     past a b h = omega arith
 
-pub minus-more : (a b : ℕ) → b ≤ a → pos a +ℤ negℤ (pos b) ≡ pos (a - b)
+minus-more : (a b : ℕ) → b ≤ a → pos a +ℤ negℤ (pos b) ≡ pos (a - b)
 minus-more a zero h = ap pos (add-zero a ∙ sym (sub-zero a))
 minus-more a (suc b) h = rw (le-ltb a (suc b) h)
 

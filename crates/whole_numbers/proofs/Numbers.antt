@@ -1,12 +1,13 @@
--- Which whole number an f64 is, times d. Both zeros are 0, and nothing else is (`zero-whole`,
--- `minus-zero-whole`, `nothing-whole`). Every whole number below 2^53 in size is 2^n times some f64
--- (`some-whole`), where n is 0 the one that it is cast to (`cast-whole`), and, but for 0, of that f64
--- alone (`one-whole`). An f64 has one such number (`times-once` of `Exact`), and it can be found
--- (`whole-of`). An f64 that has one is finite (`finite-whole`). Assumes nothing.
+-- Which whole number an f64 is, times d. Both zeros are 0, and for d above 0 nothing else is
+-- (`zero-whole`, `minus-zero-whole`, `nothing-whole`). For n to 1,074 every whole number below 2^53
+-- in size is 2^n times some f64 (`some-whole`), where n is 0 the one that it is cast to
+-- (`cast-whole`), and, but for 0, of one f64 alone (`one-whole`). An f64 has one such number
+-- (`times-once` of `Exact`), and it can be found (`whole-of`). An f64 that has one is finite
+-- (`finite-whole`). Assumes nothing.
 use mathlib.Core.Path.{_≡_, refl, sym, ap, ap₂, _∙_, subst}
-use mathlib.Core.Bool.{Bool, true, false, _||_, Bool·beq}
+use mathlib.Core.Bool.{Bool, true, false}
 use Prim.Native.Nat.{ℕ, zero, suc, _*_, _/_, _^_, _≤_, _<_, zero-le}
-use native.Mathlib.Nat.{zero-mul, eq-of-mul-eq-mul-right, mul-div-cancel, not-suc-le-zero}
+use native.Mathlib.Nat.{zero-mul, mul-div-cancel, not-suc-le-zero}
 use lib.Dec.{T, lit<}
 use lib.IntN.{ℤ, pos, negsuc, natAbs, pos-ne-negsuc}
 use lib.Pow.{pow-pos}
@@ -17,8 +18,9 @@ use Rattle.payoff_order.specs.Order.{finite}
 use Rattle.sums.specs.Sums.{zero as nought}
 use Rattle.sums.proofs.Exact.{one-value}
 use Rattle.whole_numbers.specs.Whole.{signed, Times}
-use Rattle.whole_numbers.proofs.Integers.{size-signed, signed-of}
+use Rattle.whole_numbers.proofs.Integers.{signed-of}
 use Rattle.whole_numbers.proofs.Exact.{to-value, rounded, neg-times}
+use Rattle.whole_numbers.proofs.Equal.{eq-whole}
 
 pub finite-whole : (d : ℕ) (x : Float) (z : ℤ) → Times d x z → T (finite x)
 unfolding finite
@@ -50,16 +52,7 @@ minus-zero-whole d = neg-times d nought (pos 0) (zero-whole d)
 
 -- what is 0 when multiplied is 0.0 or −0.0
 pub nothing-whole : (d : ℕ) → 0 < d → (x : Float) → Times d x (pos 0) → eq x nought ≡ true
-unfolding eq ofBits
-nothing-whole d D nan h = absurd h
-nothing-whole d D (inf s) h = absurd h
-nothing-whole d D (fin s m e) h =
-    let size : m * up e * d ≡ 0 * d = sym (size-signed s (m * up e * d)) ∙ ap natAbs h ∙ zero-mul (down e) ∙ sym (zero-mul d) in
-    rw (eq-of-mul-eq-mul-right d D (m * up e) 0 size, zero-mul (down e)) (either-sign s)
-  where
-    either-sign : (s : Bool) → (Bool·beq s false || true) ≡ true
-    either-sign true = refl
-    either-sign false = refl
+nothing-whole d D x h = eq-whole d D x nought (pos 0) (pos 0) h (zero-whole d)
 
 -- ---- the others
 

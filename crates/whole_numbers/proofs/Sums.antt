@@ -1,6 +1,6 @@
 -- A sum of products of f64s that are whole numbers when multiplied by a power of 2 is exact, where
--- the sizes of its terms together are below 2^53 (`products-exact`): no partial sum is larger.
--- Assumes nothing.
+-- the sizes of the terms' whole numbers together are below 2^53 (`products-exact`): no partial sum
+-- is larger. Assumes nothing.
 use mathlib.Core.Path.{refl, sym, subst}
 use mathlib.Core.List.{List, [], _∷_, map, List·Memᴰ·head as here, List·Memᴰ·tail as there}
 use Prim.Native.Nat.{ℕ, _+_, _^_, _≤_, _<_}

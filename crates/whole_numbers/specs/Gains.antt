@@ -26,8 +26,8 @@ pub record GridWeight (x : Float) (k : ℕ) : Type 0 where
   pub whole : Times parts x (pos k)
   pub most : k ≤ parts
 
--- a gain in whole numbers: over the others' choices, the weight of s times
--- (payoff of t − payoff of s)
+-- 65,536 times a gain, in whole numbers: the sum, over the others' choices, of the weight of s, in
+-- parts, times (payoff of t − payoff of s)
 abbrev pub wholeGain : {I : Type 0} → (ℕ → I → ℕ) → (ℕ → I → ℤ) → List I → ℕ → ℕ → ℤ
 wholeGain weight payoff others s t = wholeProducts (λ o. pos (weight s o)) (λ o. payoff t o -ℤ payoff s o) others
 
