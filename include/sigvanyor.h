@@ -311,10 +311,11 @@ uint32_t sigvanyor_number(const size_t *counts, size_t counts_len, const double 
  * likewise, over the rows ascending, with u2. +0.0 where no gain is above 0. Infinity where a gain
  * is not finite, m or n is 0 or over SIGVANYOR_MAX_ACTIONS, a length is not m x n, a number is not
  * finite, or a weight is below 0.
- * It is exact where the payoffs are whole numbers from -2^20 to 2^20 and the weights whole multiples
- * of 1/65536 from 0 to 1: 65536 times the answer is the greatest sum in whole numbers, or 0, and an
- * answer of 0 puts no weight on a row or a column that another one strictly dominates, for the
- * player who chooses it. */
+ * It is exact where the payoffs are whole numbers from -2^20 to 2^20 and the weights whole
+ * multiples of 1/65536 from 0 to 1: 65536 times the answer is the greatest of the same sums taken
+ * in whole numbers, with 65536 times the weights, or 0 where none is above 0; and where the answer
+ * is 0, no row has weight that another row strictly dominates for player 1, and no column that
+ * another column strictly dominates for player 2. The weights need not add up to 1. */
 double sigvanyor_verify_correlated_equilibrium_incentives(size_t m, size_t n, const double *u1, size_t u1_len,
                                                           const double *u2, size_t u2_len,
                                                           const double *weights, size_t weights_len);
