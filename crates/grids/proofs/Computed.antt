@@ -7,11 +7,11 @@ use mathlib.Core.Bool.{true}
 use mathlib.Core.List.{[], _∷_, flatMap}
 use Prim.Native.Nat.{ℕ, zero, suc, _+_, _*_, _<_}
 use native.Mathlib.Omega.{arith}
-use lib.Dec.{lit≤, lit<}
+use lib.Dec.{T, lit≤, lit<}
 use lib.IntN.{ℤ, pos, negsuc}
 use lib.ListN.{getD}
 use lib.Ieee as Ieee
-use lib.Ieee.{ofBits, fits}
+use lib.Ieee.{Float, binary64, ofBits, fits}
 use Rattle.game.specs.Game.{Game, profiles, whole, others}
 use Rattle.game.specs.Solution.{dominates}
 use Rattle.game.proofs.Solution.{dominates-law}
@@ -82,21 +82,21 @@ grid =
     }
 
 -- the payoffs are f64s
+held : (a b c d : Float) → T (fits binary64 a) → T (fits binary64 b) → T (fits binary64 c) → T (fits binary64 d) → Doubles (a ∷ b ∷ c ∷ d ∷ [])
+unfolding fits
+held a b c d p q r s zero = p
+held a b c d p q r s (suc zero) = q
+held a b c d p q r s (suc (suc zero)) = r
+held a b c d p q r s (suc (suc (suc zero))) = s
+held a b c d p q r s (suc (suc (suc (suc i)))) = tt
+
 held1 : Doubles first
 unfolding first two three ofBits fits
-held1 zero = tt
-held1 (suc zero) = tt
-held1 (suc (suc zero)) = tt
-held1 (suc (suc (suc zero))) = tt
-held1 (suc (suc (suc (suc i)))) = tt
+held1 = held two nought three one tt tt tt tt
 
 held2 : Doubles second
 unfolding second two three ofBits fits
-held2 zero = tt
-held2 (suc zero) = tt
-held2 (suc (suc zero)) = tt
-held2 (suc (suc (suc zero))) = tt
-held2 (suc (suc (suc (suc i)))) = tt
+held2 = held two three nought one tt tt tt tt
 
 abbrev dilemma : Game
 dilemma = twoPlayers 2 2 first second

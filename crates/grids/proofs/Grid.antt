@@ -1,10 +1,11 @@
 -- Whole-number grids, change N1 of the scope. Each gain, times 65,536, is the same sum in whole
--- numbers (`grid-row`, `grid-column`, and all of them `grid-gains`), and so is the answer
--- (`grid-answer`). An answer of 0 puts no weight on a strategy that is strictly dominated in the
--- two-player table with those payoffs (`grid-dominated`), which is dominance in the whole numbers
--- (`grid-dominated-row`, `grid-dominated-column`); here the payoffs are f64s, as the elements of a
--- slice are. An answer that is not above 0 is the 0 meant (`grid-zero`). Any lists of such numbers,
--- of the right lengths, are a grid (`grid-some`). Assumes nothing.
+-- numbers (`grid-row`, `grid-column`, and all of them `grid-gains`), and the answer, times 65,536,
+-- is the greatest of these sums, or 0 (`grid-answer`). An answer of 0 puts no weight on a strategy
+-- that is strictly dominated in the two-player table with those payoffs (`grid-dominated`), which
+-- is dominance in the whole numbers (`grid-dominated-row`, `grid-dominated-column`); here the
+-- payoffs are f64s, as the elements of a slice are. An answer that is not above 0 is the 0 meant
+-- (`grid-zero`). Any lists of such numbers, of the right lengths, are a grid (`grid-some`). Assumes
+-- nothing.
 use mathlib.Core.Path.{_≡_, sym, ap, _∙_, subst}
 use mathlib.Core.Bool.{false, true≢false}
 use mathlib.Core.List.{List, [], _∷_, Memᴰ·append-left as append-left, Memᴰ·append-right as append-right}

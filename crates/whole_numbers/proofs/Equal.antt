@@ -4,17 +4,16 @@ use mathlib.Core.Path.{_≡_, refl, sym, ap, ap₂, _∙_}
 use mathlib.Core.Logic.{_≢_}
 use mathlib.Core.Bool.{Bool, true, false, _&&_}
 use Prim.Native.Nat.{ℕ, zero, suc, _*_, _<_}
-use native.Mathlib.Nat.{mul-pos, eq-of-mul-eq-mul-right, zero-mul}
+use native.Mathlib.Nat.{eq-of-mul-eq-mul-right, zero-mul}
 use native.Mathlib.Omega.{arith}
 use lib.Dec.{T, eqb}
 use lib.IntN.{ℤ, natAbs}
 use lib.Ieee.{Float, nan, inf, fin, up, down, level, eq}
 use lib.Ieee.Exact.{HasValue}
-use lib.Ieee.Fits.{down-pos}
 use Rattle.game.proofs.Finite.{eqb-T, same-test, and-T, test-false}
 use Rattle.payoff_order.specs.Order.{eqZ}
 use Rattle.whole_numbers.specs.Whole.{signed, Times}
-use Rattle.whole_numbers.proofs.Exact.{to-value, over-first, over-second}
+use Rattle.whole_numbers.proofs.Exact.{to-value, over-both}
 
 -- fractions x / d and y / d that are a / n and b / n are equal where a and b are
 same-both : (x y n a b d : ℕ) → 0 < n → 0 < d → x * n ≡ a * d → y * n ≡ b * d → eqb x y ≡ eqb a b
@@ -69,9 +68,7 @@ module _ (d : ℕ) (D : 0 < d) where
   eq-values (fin r m e) (inf q) s t a b h k = absurd k
   eq-values (fin r m e) (fin q o f) s t a b h k =
       let c = down e * down f in
-      let C : 0 < c = mul-pos (down-pos e) (down-pos f) in
-      let x : m * up e * down f * d ≡ a * c = over-first (m * up e) (down e) (down f) d a (h .1) in
-      let y : o * up f * down e * d ≡ b * c = over-second (o * up f) (down e) (down f) d b (k .1) in
+      let (C, x, y) = over-both (m * up e) (o * up f) d a b e f (h .1) (k .1) in
       let sizes = same-both (m * up e * down f) (o * up f * down e) d a b c D C x y in
       let zeros = same-both (m * up e * down f) 0 d a 0 c D C x (zero-mul d ∙ sym (zero-mul c)) in rw (h .0, k .0, sizes, zeros) (level-eq s t a b)
 

@@ -81,11 +81,16 @@ neg-times d (inf s) z h = h
 neg-times d (fin s m e) z h = sym (signed-not s (m * up e * d)) ∙ ap negℤ h ∙ sym (neg-scale z (down e))
 
 -- the numerators over the common denominator
-pub over-first : (x d g n a : ℕ) → x * n ≡ a * d → x * g * n ≡ a * (d * g)
+over-first : (x d g n a : ℕ) → x * n ≡ a * d → x * g * n ≡ a * (d * g)
 over-first x d g n a h = mul-right-comm x g n ∙ ap (λ (i : ℕ). i * g) h ∙ mul-assoc a d g
 
-pub over-second : (y d g n b : ℕ) → y * n ≡ b * g → y * d * n ≡ b * (d * g)
+over-second : (y d g n b : ℕ) → y * n ≡ b * g → y * d * n ≡ b * (d * g)
 over-second y d g n b h = over-first y g d n b h ∙ ap (λ (i : ℕ). b * i) (mul-comm g d)
+
+-- two numbers over their common denominator, times n
+pub over-both : (x y n a b : ℕ) (e f : ℤ) → x * n ≡ a * down e → y * n ≡ b * down f
+    → (0 < down e * down f) × (x * down f * n ≡ a * (down e * down f)) × (y * down e * n ≡ b * (down e * down f))
+over-both x y n a b e f h k = (mul-pos (down-pos e) (down-pos f), over-first x (down e) (down f) n a h, over-second y (down e) (down f) n b k)
 
 -- fractions x / d and y / d that are a / n and b / n compare as a and b do
 same-order : (x y n a b d : ℕ) → 0 < n → 0 < d → x * n ≡ a * d → y * n ≡ b * d → ltb x y ≡ ltb a b
@@ -173,9 +178,8 @@ module _ (n : ℕ) (fine : n ≤ low binary64) where
   add-values (fin r m e) nan s t a b h k small = absurd k
   add-values (fin r m e) (inf q) s t a b h k small = absurd k
   add-values (fin r m e) (fin q o d) s t a b h k small =
-      rw (add-is r m e q o d, h .0, k .0)
-      (sum-exact (m * up e * down d) (o * up d * down e) (down e * down d) a b (mul-pos (down-pos e) (down-pos d))
-      (over-first (m * up e) (down e) (down d) (2 ^ n) a (h .1)) (over-second (o * up d) (down e) (down d) (2 ^ n) b (k .1)) s t small)
+      let (C, x, y) = over-both (m * up e) (o * up d) (2 ^ n) a b e d (h .1) (k .1) in
+      rw (add-is r m e q o d, h .0, k .0) (sum-exact (m * up e * down d) (o * up d * down e) (down e * down d) a b C x y s t small)
 
   pub add-exact : (x y : Float) (a b : ℤ) → Times (2 ^ n) x a → Times (2 ^ n) y b → natAbs (a +ℤ b) < 2 ^ prec binary64
       → Times (2 ^ n) (add binary64 x y) (a +ℤ b)
@@ -226,11 +230,8 @@ module _ (d : ℕ) (D : 0 < d) where
   lt-values (fin r m e) nan s t a b h k = absurd k
   lt-values (fin r m e) (inf q) s t a b h k = absurd k
   lt-values (fin r m e) (fin q o f) s t a b h k =
-      let c = down e * down f in
-      let C : 0 < c = mul-pos (down-pos e) (down-pos f) in
-      let x : m * up e * down f * d ≡ a * c = over-first (m * up e) (down e) (down f) d a (h .1) in
-      let y : o * up f * down e * d ≡ b * c = over-second (o * up f) (down e) (down f) d b (k .1) in
-      rw (h .0, k .0) (go s t (m * up e * down f) (o * up f * down e) c C x y) ∙ signed-lt s t a b
+      let (C, x, y) = over-both (m * up e) (o * up f) d a b e f (h .1) (k .1) in
+      rw (h .0, k .0) (go s t (m * up e * down f) (o * up f * down e) (down e * down f) C x y) ∙ signed-lt s t a b
     where
       go : (s t : Bool) (x y c : ℕ) → 0 < c → x * d ≡ a * c → y * d ≡ b * c → below s x t y ≡ below s a t b
       go false false x y c C p q = same-order x y d a b c D C p q
