@@ -55,24 +55,17 @@ def grid(m, n, u1, u2, weights):
     return payoffs1, payoffs2, parts
 
 
-def gains_in_parts(m, n, payoffs1, payoffs2, parts):
-    """Every gain times 65,536: player 1's rows i and k, then player 2's columns j and l."""
-    found = []
-    for i in range(m):
-        for k in range(m):
-            if i != k:
-                found.append(sum(
-                    parts[i * n + j] * (payoffs1[k * n + j] - payoffs1[i * n + j])
-                    for j in range(n)
-                ))
-    for j in range(n):
-        for l in range(n):
-            if j != l:
-                found.append(sum(
-                    parts[i * n + j] * (payoffs2[i * n + l] - payoffs2[i * n + j])
-                    for i in range(m)
-                ))
-    return found
+def strategies(table, m, n):
+    """A flat table by the strategies of player 1, its rows, and by those of player 2."""
+    return [table[i * n:i * n + n] for i in range(m)], [table[j::n] for j in range(n)]
+
+
+def gains_of(payoffs, parts):
+    """A player's gains times 65,536, by its strategies: t in place of s, for each s and t."""
+    return [
+        sum(part * (new - old) for part, new, old in zip(parts[s], payoffs[t], payoffs[s]))
+        for s in range(len(payoffs)) for t in range(len(payoffs)) if s != t
+    ]
 
 
 def greatest_in_parts(gains):
@@ -80,25 +73,11 @@ def greatest_in_parts(gains):
     return max([0] + gains)
 
 
-def dominated_rows(m, n, payoffs1):
-    """The rows such that another row has a greater payoff of player 1 in every column."""
+def dominated(payoffs):
+    """A player's strategies such that another one pays more against each choice of the other."""
     return [
-        i for i in range(m)
-        if any(
-            all(payoffs1[k * n + j] > payoffs1[i * n + j] for j in range(n))
-            for k in range(m) if k != i
-        )
-    ]
-
-
-def dominated_columns(m, n, payoffs2):
-    """The columns such that another column has a greater payoff of player 2 in every row."""
-    return [
-        j for j in range(n)
-        if any(
-            all(payoffs2[i * n + l] > payoffs2[i * n + j] for i in range(m))
-            for l in range(n) if l != j
-        )
+        s for s, here in enumerate(payoffs)
+        if any(all(new > old for new, old in zip(there, here)) for there in payoffs)
     ]
 
 
@@ -117,8 +96,13 @@ def check(m, n, u1, u2, weights, answer):
     if found is None:
         return False, False
     payoffs1, payoffs2, parts = found
+    rows, columns = strategies(parts, m, n)
+    players = [
+        ("row", strategies(payoffs1, m, n)[0], rows),
+        ("column", strategies(payoffs2, m, n)[1], columns),
+    ]
     gains = candidates.gains(m, n, u1, u2, weights)
-    whole_gains = gains_in_parts(m, n, payoffs1, payoffs2, parts)
+    whole_gains = [gain for _, payoffs, own in players for gain in gains_of(payoffs, own)]
     if len(gains) != len(whole_gains):
         raise Differs("%d gains, and %d in whole numbers" % (len(gains), len(whole_gains)))
     for place, (gain, whole_gain) in enumerate(zip(gains, whole_gains)):
@@ -126,12 +110,10 @@ def check(m, n, u1, u2, weights, answer):
     hold("the answer", answer, greatest_in_parts(whole_gains))
     if answer != 0:
         return True, False
-    rows = dominated_rows(m, n, payoffs1)
-    columns = dominated_columns(m, n, payoffs2)
-    for i in rows:
-        if any(parts[i * n + j] != 0 for j in range(n)):
-            raise Differs("the answer is 0, and row %d is dominated and has weight" % i)
-    for j in columns:
-        if any(parts[i * n + j] != 0 for i in range(m)):
-            raise Differs("the answer is 0, and column %d is dominated and has weight" % j)
-    return True, bool(rows or columns)
+    some = False
+    for name, payoffs, own in players:
+        for s in dominated(payoffs):
+            some = True
+            if any(own[s]):
+                raise Differs("the answer is 0, and %s %d is dominated and has weight" % (name, s))
+    return True, some
