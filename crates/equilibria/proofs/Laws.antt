@@ -1,6 +1,6 @@
--- What the answers say: the whole table is the case where every strategy is marked, the count is the length of the list, and a profile is
--- said to be an equilibrium exactly where the list has it. Assumes nothing.
-use mathlib.Core.Path.{_≡_, _∙_}
+-- What the answers say: the whole table is the case where every strategy is marked, the total told is the length of the list, and a profile
+-- is said to be an equilibrium exactly where the list has it. Assumes nothing.
+use mathlib.Core.Path.{_≡_, ap}
 use mathlib.Core.Bool.{Bool, true}
 use mathlib.Core.List.{List}
 use mathlib.Core.Logic.{_↔_, Iff·trans, Iff·symm}
@@ -19,7 +19,8 @@ use Rattle.refusal.specs.Refusal.{_then_}
 use Rattle.refusal.specs.Told.{values}
 use Rattle.refusal.proofs.Told.{told-values}
 use Rattle.refusal.proofs.Refusal.{then-none}
-use Rattle.written_lists.specs.Outputs.{roomRefusal}
+use Rattle.refusal.specs.declared.Listed.{Listed}
+use Rattle.written_lists.specs.Listing.{listedOf}
 use Rattle.payoff_tables.specs.Limits.{maxMarks}
 use Rattle.payoff_tables.specs.Table.{tableGame}
 use Rattle.payoff_tables.specs.Meaning.{Shape}
@@ -27,7 +28,7 @@ use Rattle.payoff_tables.specs.Checks.{tableRefusal, profileRefusal}
 use Rattle.payoff_tables.proofs.Checks.{profile-law}
 use Rattle.marks.specs.Marks.{marked}
 use Rattle.marks.proofs.Marks.{marks-whole}
-use Rattle.equilibria.specs.Answers.{tableEquilibria, isEquilibriumAnswer, countAnswer, listingAnswer, equilibriaAnswer}
+use Rattle.equilibria.specs.Answers.{tableEquilibria, isEquilibriumAnswer, listingAnswer, equilibriaAnswer}
 
 module _ (counts : List ℕ) (payoffs : List Float) where
   -- With a mark on every place, the equilibria are the whole table's,
@@ -44,13 +45,10 @@ module _ (counts : List ℕ) (payoffs : List Float) where
       same-test _ _ (Iff·trans (equilibrium-listed g (marked (replicate maxMarks true)) x r)
       (Iff·trans (rw (whole-equilibria h) (λ i. i, λ i. i)) (Iff·symm (equilibrium-listed g (whole g) x r))))
 
-  -- What `count_equilibria` answers is the length of the list that `equilibria` writes.
-  pub count-is-length : (n k a b : ℕ) → values n ≡ countAnswer counts payoffs → values k ≡ equilibriaAnswer counts payoffs a b
-      → (n ≡ length (tableEquilibria counts payoffs)) × (k ≡ n)
-  unfolding countAnswer listingAnswer
-  count-is-length n k a b h i =
-      let e = told-values (tableRefusal counts payoffs) (length (tableEquilibria counts payoffs)) n h .1 in
-      (e, told-values (tableRefusal counts payoffs then roomRefusal _ a b) (length (tableEquilibria counts payoffs)) k i .1 ∙ cc)
+  -- The total that `equilibria` tells is the length of the list, whatever the outputs' lengths.
+  pub total-is-length : (l : Listed) (a b : ℕ) → values l ≡ equilibriaAnswer counts payoffs a b → l .total ≡ length (tableEquilibria counts payoffs)
+  unfolding listingAnswer listedOf
+  total-is-length l a b h = ap (λ (l : Listed). l .total) (told-values (tableRefusal counts payoffs) (listedOf (tableEquilibria counts payoffs) (length counts) a b) l h .1)
 
   -- `is_equilibrium` answers yes exactly for the members of that list.
   pub equilibrium-is-member : (x : List ℕ) (b : Bool) → values b ≡ isEquilibriumAnswer counts payoffs x → T b ↔ (x ∈ tableEquilibria counts payoffs)

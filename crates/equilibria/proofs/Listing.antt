@@ -1,66 +1,68 @@
--- A listing's laws: it depends on the marks only by its equilibria, writes all of them where it is
--- not refused, and nothing where it is. Assumes nothing.
+-- A listing's laws: what it tells and writes where nothing refuses, that outputs which hold all get all, and that a refused listing leaves both
+-- outputs as they were. Assumes nothing.
 use mathlib.Core.Path.{_≡_, refl, sym, ap, _∙_}
-use mathlib.Core.List.{List, [], map, flatMap}
-use mathlib.Core.Option.{some}
-use Prim.Native.Nat.{ℕ, _*_}
+use mathlib.Core.List.{List, map, flatMap}
+use mathlib.Core.Option.{none, some}
+use Prim.Native.Nat.{ℕ, _*_, _≤_, _<_}
 use lib.ListN.{length, take, length-map}
 use lib.Seq.{take-length}
 use lib.Ieee.{Float}
-use Rattle.game.specs.Game.{Marks}
-use Rattle.game.specs.Solution.{equilibria}
-use Rattle.refusal.specs.Refusal.{Refusal, numberOf, _then_}
-use Rattle.refusal.specs.Told.{values, refused}
+use Rattle.refusal.specs.Refusal.{Refusal, numberOf}
+use Rattle.refusal.specs.Told.{Told, values, refused}
+use Rattle.refusal.specs.declared.Listed.{Listed}
 use Rattle.refusal.specs.declared.NormalFormError.{NormalFormError}
-use Rattle.refusal.proofs.Told.{told-values}
-use Rattle.written_lists.specs.Outputs.{roomRefusal, written, joined, over}
+use Rattle.written_lists.specs.Outputs.{writtenOf, joined, over}
+use Rattle.written_lists.specs.Listing.{listedOf}
 use Rattle.written_lists.proofs.Outputs.{refused-kept, flat-map}
-use Rattle.payoff_tables.specs.Table.{profilePart, tableGame}
+use Rattle.written_lists.proofs.Listing.{listed-all}
+use Rattle.payoff_tables.specs.Table.{profilePart}
 use Rattle.equilibria.specs.Answers.{listingAnswer, listedChoices, listedUtilities}
 
-module _ (counts : List ℕ) (payoffs : List Float) (a b : ℕ) where
-  -- A listing depends on the marks only by its equilibria.
-  module _ (m n : Marks) (is : equilibria (tableGame counts payoffs) m ≡ equilibria (tableGame counts payoffs) n) (r : Refusal) where
-    pub same-answer : listingAnswer counts payoffs r m a b ≡ listingAnswer counts payoffs r n a b
-    unfolding listingAnswer
-    same-answer = rw is
+module _ (counts : List ℕ) (payoffs : List Float) (es : List (List ℕ)) where
+  module _ (old choices : List ℕ) (old′ utilities : List Float) where
+    -- l tells both numbers, and of each output the first so many are written
+    abbrev pub Wrote : Listed → Type 0
+    Wrote l =
+        (l ≡ listedOf es (length counts) (length old) (length old′))
+        × ((choices ≡ over (joined (l .written) es) old) × (utilities ≡ over (joined (l .written) (map (profilePart counts payoffs) es)) old′))
 
-    pub same-choices : listedChoices counts payoffs r m a b ≡ listedChoices counts payoffs r n a b
-    unfolding listedChoices
-    same-choices = rw (same-answer, is)
+    -- what a listing tells and leaves in its outputs
+    abbrev pub Lists : Refusal → Told Listed → Type 0
+    Lists r t =
+        (t ≡ listingAnswer counts payoffs r es (length old) (length old′))
+        × ((choices ≡ over (listedChoices counts payoffs r es (length old) (length old′)) old)
+        × (utilities ≡ over (listedUtilities counts payoffs r es (length old) (length old′)) old′))
 
-    pub same-utilities : listedUtilities counts payoffs r m a b ≡ listedUtilities counts payoffs r n a b
-    unfolding listedUtilities
-    same-utilities = rw (same-answer, is)
+    -- Where nothing refuses, a listing is that.
+    pub listing-told : (r : Refusal) → r ≡ none → (l : Listed) → Wrote l → Lists r (values l)
+    unfolding listingAnswer listedChoices listedUtilities
+    listing-told r h l (is, (first, second)) = rw h (ap (λ (l : Listed). values l) is, (first ∙ ap (λ (l : Listed). over (joined (l .written) es) old) is, second ∙ ap (λ (l : Listed). over (joined (l .written) (map (profilePart counts payoffs) es)) old′) is))
 
-  -- A listing that is not refused writes every equilibrium, whole.
-  pub listing-all : (m : Marks) (r : Refusal) (k : ℕ) → values k ≡ listingAnswer counts payoffs r m a b
-      → (k ≡ length (equilibria (tableGame counts payoffs) m))
-      × (listedChoices counts payoffs r m a b ≡ flatMap (λ x. x) (equilibria (tableGame counts payoffs) m))
-      × (listedUtilities counts payoffs r m a b ≡ flatMap (profilePart counts payoffs) (equilibria (tableGame counts payoffs) m))
+  -- What refuses is told, and nothing is written.
+  pub listing-refused : (old : List ℕ) (old′ : List Float) (r : Refusal) (e : NormalFormError) → r ≡ some e → Lists old old old′ old′ r (refused (numberOf e))
   unfolding listingAnswer listedChoices listedUtilities
-  listing-all m r k h =
-      let es : List (List ℕ) = equilibria (tableGame counts payoffs) m in
-      let part = profilePart counts payoffs in
-      let (ok, is) = told-values (r then roomRefusal (length es * length counts) a b) (length es) k h in
-      rw ok (
-        is,
-        ap (flatMap (λ x. x)) (take-length es),
-        ap (flatMap (λ x. x)) (ap (λ (n : ℕ). take n (map part es)) (sym (length-map es part)) ∙ take-length (map part es)) ∙ flat-map part es,
-      )
+  listing-refused old old′ r e h = rw h (refl, (refl, refl))
 
-  -- A listing that refuses, by 13 too, leaves both outputs as they were.
-  pub listing-kept : (m : Marks) (r : Refusal) (e : ℕ) → listingAnswer counts payoffs r m a b ≡ refused e → (old : List ℕ) (old′ : List Float)
-      → (over (listedChoices counts payoffs r m a b) old ≡ old) × (over (listedUtilities counts payoffs r m a b) old′ ≡ old′)
-  unfolding listedChoices listedUtilities flatMap
-  listing-kept m r e is old old′ =
-      let es : List (List ℕ) = equilibria (tableGame counts payoffs) m in (
-        refused-kept (λ t. joined (written t) es) (λ _. refl) _ e is old,
-        refused-kept (λ t. joined (written t) (map (profilePart counts payoffs) es)) (λ _. refl) _ e is old′,
-      )
+  module _ (a b : ℕ) where
+    -- A listing that refuses leaves both outputs as they were.
+    pub listing-kept : (r : Refusal) (e : ℕ) → listingAnswer counts payoffs r es a b ≡ refused e → (old : List ℕ) (old′ : List Float)
+        → (over (listedChoices counts payoffs r es a b) old ≡ old) × (over (listedUtilities counts payoffs r es a b) old′ ≡ old′)
+    unfolding listedChoices listedUtilities
+    listing-kept r e is old old′ = (
+      refused-kept (writtenOf (λ l. joined (l .written) es)) (λ _. refl) _ e is old,
+      refused-kept (writtenOf (λ l. joined (l .written) (map (profilePart counts payoffs) es))) (λ _. refl) _ e is old′,
+    )
 
-  -- Where something refuses before, it is told and nothing is written.
-  pub listing-refused : (m : Marks) (r : Refusal) (e : NormalFormError) → r ≡ some e
-      → (refused (numberOf e) ≡ listingAnswer counts payoffs r m a b) × (listedChoices counts payoffs r m a b ≡ []) × (listedUtilities counts payoffs r m a b ≡ [])
-  unfolding listingAnswer listedChoices listedUtilities flatMap
-  listing-refused m r e h = rw h (refl, refl, refl)
+    -- Outputs that hold all get all.
+    pub listing-all : 0 < length counts → length es * length counts ≤ a → length es * length counts ≤ b → (r : Refusal) → r ≡ none
+        → (listingAnswer counts payoffs r es a b ≡ values (record { total = length es; written = length es }))
+        × (listedChoices counts payoffs r es a b ≡ flatMap (λ x. x) es)
+        × (listedUtilities counts payoffs r es a b ≡ flatMap (profilePart counts payoffs) es)
+    unfolding listingAnswer listedChoices listedUtilities
+    listing-all least h k r no-refusal =
+        let part = profilePart counts payoffs in
+        rw (no-refusal, listed-all es (length counts) a b least h k) (
+          refl,
+          ap (flatMap (λ x. x)) (take-length es),
+          ap (flatMap (λ x. x)) (ap (λ (n : ℕ). take n (map part es)) (sym (length-map es part)) ∙ take-length (map part es)) ∙ flat-map part es,
+        )

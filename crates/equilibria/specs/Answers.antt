@@ -2,14 +2,16 @@
 -- nothing.
 use mathlib.Core.Bool.{Bool}
 use mathlib.Core.List.{List, map}
-use Prim.Native.Nat.{ℕ, _*_}
+use Prim.Native.Nat.{ℕ}
 use lib.ListN.{length}
 use lib.Ieee.{Float}
-use Rattle.game.specs.Game.{Marks, whole}
+use Rattle.game.specs.Game.{whole}
 use Rattle.game.specs.Solution.{equilibrium, equilibria}
 use Rattle.refusal.specs.Refusal.{Refusal, _then_}
 use Rattle.refusal.specs.Told.{Told, unless}
-use Rattle.written_lists.specs.Outputs.{roomRefusal, written, joined}
+use Rattle.refusal.specs.declared.Listed.{Listed}
+use Rattle.written_lists.specs.Outputs.{writtenOf, joined}
+use Rattle.written_lists.specs.Listing.{listedOf}
 use Rattle.payoff_tables.specs.Table.{profilePart, tableGame}
 use Rattle.payoff_tables.specs.Checks.{tableRefusal, profileRefusal}
 
@@ -23,32 +25,26 @@ module _ (counts : List ℕ) (payoffs : List Float) where
   isEquilibriumAnswer x =
       unless (tableRefusal counts payoffs then profileRefusal counts x) (equilibrium (tableGame counts payoffs) (whole (tableGame counts payoffs)) x)
 
-  -- how many there are, or 1 to 7
-  unfoldable pub countAnswer : Told ℕ
-  countAnswer = unless (tableRefusal counts payoffs) (length tableEquilibria)
+  -- A listing of the profiles es: `earlier` is what refuses, and a and b are the lengths of the outputs.
+  module _ (earlier : Refusal) (es : List (List ℕ)) (a b : ℕ) where
+    -- how many there are and how many of them are written, or `earlier`: P choices of each go into one output, and P payoffs into the other
+    unfoldable pub listingAnswer : Told Listed
+    listingAnswer = unless earlier (listedOf es (length counts) a b)
 
-  -- A listing among marks: `earlier` is what refuses before 13, and a and b are the lengths of the outputs.
-  module _ (earlier : Refusal) (m : Marks) (a b : ℕ) where
-    -- how many equilibria there are, or `earlier`, then 13: P choices of each go into one output, and P payoffs into the other
-    unfoldable pub listingAnswer : Told ℕ
-    listingAnswer =
-        let n = length (equilibria (tableGame counts payoffs) m) in
-        unless (earlier then roomRefusal (n * length counts) a b) n
-
-    -- what is written: the choices of each, in profile order,
+    -- what is written: the choices of the first so many, one after the other,
     unfoldable pub listedChoices : List ℕ
-    listedChoices = joined (written listingAnswer) (equilibria (tableGame counts payoffs) m)
+    listedChoices = writtenOf (λ l. joined (l .written) es) listingAnswer
 
     -- and the payoffs of each
     unfoldable pub listedUtilities : List Float
-    listedUtilities = joined (written listingAnswer) (map (profilePart counts payoffs) (equilibria (tableGame counts payoffs) m))
+    listedUtilities = writtenOf (λ l. joined (l .written) (map (profilePart counts payoffs) es)) listingAnswer
 
-  -- the listing of the whole table, which refuses 1 to 7 first
-  abbrev pub equilibriaAnswer : ℕ → ℕ → Told ℕ
-  equilibriaAnswer = listingAnswer (tableRefusal counts payoffs) (whole (tableGame counts payoffs))
+  -- the listing of the whole table's, which refuses 1 to 7
+  abbrev pub equilibriaAnswer : ℕ → ℕ → Told Listed
+  equilibriaAnswer = listingAnswer (tableRefusal counts payoffs) tableEquilibria
 
   abbrev pub equilibriaChoices : ℕ → ℕ → List ℕ
-  equilibriaChoices = listedChoices (tableRefusal counts payoffs) (whole (tableGame counts payoffs))
+  equilibriaChoices = listedChoices (tableRefusal counts payoffs) tableEquilibria
 
   abbrev pub equilibriaUtilities : ℕ → ℕ → List Float
-  equilibriaUtilities = listedUtilities (tableRefusal counts payoffs) (whole (tableGame counts payoffs))
+  equilibriaUtilities = listedUtilities (tableRefusal counts payoffs) tableEquilibria

@@ -1,3 +1,2 @@
 -- The laws of this crate's definitions.
 pub mod Write
-pub mod Listing

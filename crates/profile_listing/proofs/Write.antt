@@ -1,16 +1,18 @@
--- Writing lists one after the other: a list put into its place from its last element to its first, and the lists of those profiles that have
--- a true, with what is done, what is to come and the old rest. Assumes nothing.
+-- A list put into its place from its last element to its first, and the lists of the profiles that pass a test, one after the other as far as
+-- there is room. Assumes nothing.
 use mathlib.Core.Path.{_≡_, refl, sym, ap, _∙_, subst}
-use mathlib.Core.List.{List, [], _∷_, _++_, flatMap, append-assoc, append-nil}
 use mathlib.Core.Bool.{Bool, true, false, cond}
-use Prim.Native.Nat.{ℕ, suc, _+_, _*_, _-_, _≤_, _<_, zero-le, suc-le-suc}
-use native.Mathlib.Nat.{suc-inj, suc-ne-zero, add-suc, zero-mul, suc-mul}
+use mathlib.Core.List.{List, [], _∷_, _++_, flatMap, append-assoc, append-nil}
+use Prim.Native.Nat.{ℕ, zero, suc, _+_, _*_, _-_, min, _≤_, _<_}
+use native.Mathlib.Nat.{add-suc, add-mul, zero-mul, one-mul, mul-le-mul-right}
 use native.Mathlib.Numerals.{add-one}
 use native.Mathlib.Omega.{arith}
 use lib.ListN.{length, getD, set, take, drop, length-append, length-drop, take-append-drop, drop-of-length-le}
-use lib.Seq.{take-suc, drop-cons, drop-length, drop-drop, set-at, length-take-le, take-at, drop-append-add}
+use lib.Seq.{take-all, take-suc, drop-cons, drop-length, set-at, length-take-le, take-append-le, take-at, drop-append-add, drop-drop}
+use Rattle.game.specs.Finite.{filter}
+use Rattle.game.proofs.Finite.{flatMap-last}
 use Rattle.written_lists.specs.Outputs.{over}
-use Rattle.profile_listing.specs.Chosen.{chosen}
+use Rattle.written_lists.proofs.Outputs.{over-length}
 
 -- ---- a list into its place, from its last element to its first
 
@@ -38,102 +40,102 @@ module _ {A : Type 0} (x out : List A) (n at : ℕ) where
   fill-length p long most room =
       rw (length-append, length-append, length-take-le (at + p) out (omega arith), length-drop, length-drop) (omega arith)
 
--- ---- the elements that have a true
+-- ---- the elements that pass a test
 
-module _ {A : Type 0} (bs : List Bool) (xs : List A) (d : A) (k : ℕ) (h : k < length bs) (l : k < length xs) where
-  one : chosen (drop k bs) (drop k xs) ≡ cond (getD bs k false) (getD xs k d ∷ chosen (drop (k + 1) bs) (drop (k + 1) xs)) (chosen (drop (k + 1) bs) (drop (k + 1) xs))
-  one = rw (add-one k, drop-cons bs k false h, drop-cons xs k d l)
+module _ {A : Type 0} (f : A → Bool) (xs : List A) (d : A) (k : ℕ) (l : k < length xs) where
+  one : filter f (drop k xs) ≡ cond (f (getD xs k d)) (getD xs k d ∷ filter f (drop (k + 1) xs)) (filter f (drop (k + 1) xs))
+  one = rw (add-one k, drop-cons xs k d l)
 
-  pub chosen-yes : getD bs k false ≡ true → chosen (drop k bs) (drop k xs) ≡ getD xs k d ∷ chosen (drop (k + 1) bs) (drop (k + 1) xs)
-  chosen-yes e = rw e at one
+  pub filter-drop-yes : f (getD xs k d) ≡ true → filter f (drop k xs) ≡ getD xs k d ∷ filter f (drop (k + 1) xs)
+  filter-drop-yes e = rw e at one
 
-  pub chosen-no : getD bs k false ≡ false → chosen (drop k bs) (drop k xs) ≡ chosen (drop (k + 1) bs) (drop (k + 1) xs)
-  chosen-no e = rw e at one
+  pub filter-drop-no : f (getD xs k d) ≡ false → filter f (drop k xs) ≡ filter f (drop (k + 1) xs)
+  filter-drop-no e = rw e at one
 
--- None are left where the list ends.
-pub chosen-end : {A : Type 0} (bs : List Bool) (xs : List A) (k : ℕ) → length xs ≤ k → chosen (drop k bs) (drop k xs) ≡ []
-chosen-end {A} bs xs k h = rw (drop-of-length-le xs h) (go (drop k bs))
-  where
-    go : (bs : List Bool) → chosen {A = A} bs [] ≡ []
-    go [] = refl
-    go (b ∷ bs) = refl
+-- ---- their lists, one after the other, as far as there is room
 
--- How many there are depends on the length alone.
-pub chosen-many : {A B : Type 0} (bs : List Bool) (xs : List A) (ys : List B) → length xs ≡ length ys → length (chosen bs xs) ≡ length (chosen bs ys)
-chosen-many [] xs ys e = refl
-chosen-many (b ∷ bs) [] [] e = refl
-chosen-many (b ∷ bs) [] (y ∷ ys) e = absurd (suc-ne-zero (length ys) (sym e))
-chosen-many (b ∷ bs) (x ∷ xs) [] e = absurd (suc-ne-zero (length xs) e)
-chosen-many {A} {B} (b ∷ bs) (x ∷ xs) (y ∷ ys) e = go b (chosen-many bs xs ys (suc-inj e))
-  where
-    go : (b : Bool) → length (chosen bs xs) ≡ length (chosen bs ys)
-        → length (cond b (x ∷ chosen bs xs) (chosen bs xs)) ≡ length (cond b (y ∷ chosen bs ys) (chosen bs ys))
-    go true i = ap suc i
-    go false i = i
+-- the first of a list and one more
+take-more : {A : Type 0} (n : ℕ) (xs : List A) (x : A) → length xs < n → take n (xs ++ (x ∷ [])) ≡ take n xs ++ (x ∷ [])
+take-more n xs x h =
+    take-all n (xs ++ (x ∷ [])) (omega (arith, length-append xs (x ∷ []))) ∙ ap (λ l. l ++ (x ∷ [])) (sym (take-all n xs (omega arith)))
 
--- ---- their lists, one after the other
+-- Of those that pass, the ones before the k-th are `before`, and `out` holds the lists of the first of them, `room` at most, of n elements each, and
+-- then what stood there at first.
+pub record Listing {A : Type 0} (e : List ℕ → List A) (f : List ℕ → Bool) (ps : List (List ℕ)) (n room : ℕ) (old out : List A) (number k : ℕ) : Type 0 where
+  pub before : List (List ℕ)
+  pub many : length before ≡ number
+  pub rest : before ++ filter f (drop k ps) ≡ filter f ps
+  pub long : length (flatMap e (take room before)) ≡ min room number * n
+  pub stands : out ≡ over (flatMap e (take room before)) old
 
--- `out` holds the lists of those before the k-th, in at places, and then what stood there at first
-pub record Listing {A : Type 0} (e : List ℕ → List A) (bs : List Bool) (ps : List (List ℕ)) (old out : List A) (at k : ℕ) : Type 0 where
-  pub done : List A
-  pub long : length done ≡ at
-  pub rest : done ++ flatMap e (chosen (drop k bs) (drop k ps)) ≡ flatMap e (chosen bs ps)
-  pub stands : out ≡ done ++ drop at old
+module _ {A : Type 0} (e : List ℕ → List A) (f : List ℕ → Bool) (ps : List (List ℕ)) (n room : ℕ) (old : List A) where
+  pub listing-none : Listing e f ps n room old old 0 0
+  unfolding flatMap
+  listing-none =
+      let z : take {A = List ℕ} room [] ≡ [] = take-all room [] (omega arith) in
+      let none : min room 0 ≡ 0 = omega arith in
+      record { before = []; many = refl; rest = refl; long = rw (z, none) (sym (zero-mul n)); stands = rw z refl }
 
-module _ {A : Type 0} (e : List ℕ → List A) (bs : List Bool) (ps : List (List ℕ)) (old : List A) where
-  pub listing-none : Listing e bs ps old old 0 0
-  listing-none = record { done = []; long = refl; rest = refl; stands = refl }
+  module _ (out : List A) (number k : ℕ) (u : Listing e f ps n room old out number k) where
+    pub listing-length : room * n ≤ length old → length out ≡ length old
+    listing-length h =
+        let less : min room number ≤ room = omega arith in
+        ap length (u .stands) ∙ over-length (flatMap e (take room (u .before))) old (omega (arith, u .long, mul-le-mul-right n less))
 
-  module _ (out : List A) (at k : ℕ) (u : Listing e bs ps old out at k) (room : length (flatMap e (chosen bs ps)) ≤ length old) where
-    pub listing-length : length out ≡ length old
-    listing-length =
-        let w = rw length-append at (ap length (u .rest)) in
-        omega (arith, u .long, simp (length-append, length-drop) at (ap length (u .stands)))
-
-    pub listing-end : length ps ≤ k → out ≡ over (flatMap e (chosen bs ps)) old
-    unfolding flatMap
+    pub listing-end : length ps ≤ k → (number ≡ length (filter f ps)) × (out ≡ over (flatMap e (take room (filter f ps))) old)
     listing-end h =
-        let w : u .done ≡ flatMap e (chosen bs ps) = sym (append-nil (u .done)) ∙ (rw (chosen-end bs ps k h) at (u .rest)) in
-        let n : at ≡ length (flatMap e (chosen bs ps)) = sym (u .long) ∙ ap length w in
-        u .stands ∙ ap (λ (l : List A). l ++ drop at old) w ∙ ap (λ (m : ℕ). flatMap e (chosen bs ps) ++ drop m old) n
+        let w : u .before ≡ filter f ps = sym (append-nil (u .before)) ∙ (rw (drop-of-length-le ps h) at (u .rest)) in
+        (sym (u .many) ∙ ap length w, u .stands ∙ ap (λ (xs : List (List ℕ)). over (flatMap e (take room xs)) old) w)
 
-    module _ (h : k < length bs) (l : k < length ps) where
-      pub listing-no : getD bs k false ≡ false → Listing e bs ps old out at (k + 1)
-      listing-no f = record { done = u .done; long = u .long; rest = rw (chosen-no bs ps [] k h l f) at (u .rest); stands = u .stands }
+    module _ (l : k < length ps) where
+      pub listing-no : f (getD ps k []) ≡ false → Listing e f ps n room old out number (k + 1)
+      listing-no z =
+          record { before = u .before; many = u .many; rest = rw (filter-drop-no f ps [] k l z) at (u .rest); long = u .long; stands = u .stands }
 
-      -- those to come after a k-th that has a true
-      more : getD bs k false ≡ true → u .done ++ (e (getD ps k []) ++ flatMap e (chosen (drop (k + 1) bs) (drop (k + 1) ps))) ≡ flatMap e (chosen bs ps)
-      unfolding flatMap
-      more t = rw (chosen-yes bs ps [] k h l t) at (u .rest)
+      module _ (z : f (getD ps k []) ≡ true) where
+        abbrev x : List ℕ
+        x = getD ps k []
 
-      pub listing-room : (n : ℕ) → getD bs k false ≡ true → length (e (getD ps k [])) ≡ n → at + n ≤ length old
-      listing-room n t f = omega (arith, u .long, simp length-append at (ap length (more t)))
+        more : u .before ++ (x ∷ []) ++ filter f (drop (k + 1) ps) ≡ filter f ps
+        more = append-assoc (u .before) (x ∷ []) (filter f (drop (k + 1) ps)) ∙ (rw (filter-drop-yes f ps [] k l z) at (u .rest))
 
-      pub listing-yes : (n : ℕ) (out′ : List A) → getD bs k false ≡ true → length (e (getD ps k [])) ≡ n
-          → out′ ≡ take at out ++ (e (getD ps k []) ++ drop (at + n) out) → Listing e bs ps old out′ (at + n) (k + 1)
-      listing-yes n out′ t f is =
-          let x : List A = e (getD ps k []) in
-          let before : take at (u .done ++ drop at old) ≡ u .done = take-at (u .done) (drop at old) at (u .long) in
-          let after : drop (at + n) (u .done ++ drop at old) ≡ drop (at + n) old =
-          subst (λ (m : ℕ). drop (m + n) (u .done ++ drop at old) ≡ drop n (drop at old)) (u .long) (drop-append-add (u .done) (drop at old) n) ∙ drop-drop n at old in
-          record {
-            done = u .done ++ x;
-            long = length-append (u .done) x ∙ rw (u .long, f);
-            rest = append-assoc (u .done) x (flatMap e (chosen (drop (k + 1) bs) (drop (k + 1) ps))) ∙ more t;
-            stands =
-                is ∙ ap (λ (l : List A). take at l ++ (x ++ drop (at + n) l)) (u .stands)
-                ∙ rw (before, after) (sym (append-assoc (u .done) x (drop (at + n) old)));
-          }
+        one-more : length (u .before ++ (x ∷ [])) ≡ number + 1
+        one-more = omega (arith, u .many, length-append (u .before) (x ∷ []))
 
--- Lists of n elements each are n times as many elements.
-pub flat-length : {A : Type 0} (e : List ℕ → List A) (n : ℕ) (bs : List Bool) (ps : List (List ℕ))
-    → ((i : ℕ) → i < length ps → length (e (getD ps i [])) ≡ n) → length (flatMap e (chosen bs ps)) ≡ length (chosen bs ps) * n
-unfolding flatMap
-flat-length e n [] ps h = sym (zero-mul n)
-flat-length e n (b ∷ bs) [] h = sym (zero-mul n)
-flat-length {A} e n (b ∷ bs) (x ∷ ps) h = go b (flat-length e n bs ps (λ i l. h (suc i) (suc-le-suc l)))
-  where
-    go : (b : Bool) → length (flatMap e (chosen bs ps)) ≡ length (chosen bs ps) * n
-        → length (flatMap e (cond b (x ∷ chosen bs ps) (chosen bs ps))) ≡ length (cond b (x ∷ chosen bs ps) (chosen bs ps)) * n
-    go true i = length-append (e x) (flatMap e (chosen bs ps)) ∙ rw (h 0 (suc-le-suc zero-le), i, suc-mul) (omega arith)
-    go false i = i
+        -- there is no more room
+        pub listing-full : room ≤ number → Listing e f ps n room old out (number + 1) (k + 1)
+        listing-full h =
+            let same : take room (u .before ++ (x ∷ [])) ≡ take room (u .before) = take-append-le room (u .before) (x ∷ []) (omega (arith, u .many)) in
+            let least : min room (number + 1) ≡ min room number = omega arith in
+            record {
+              before = u .before ++ (x ∷ []);
+              many = one-more;
+              rest = more;
+              long = rw (same, least) (u .long);
+              stands = rw same (u .stands);
+            }
+
+        -- there is
+        pub listing-yes : (out′ : List A) → number < room → length (e x) ≡ n
+            → out′ ≡ take (number * n) out ++ (e x ++ drop (number * n + n) out) → Listing e f ps n room old out′ (number + 1) (k + 1)
+        listing-yes out′ h size is =
+            let done : List A = flatMap e (take room (u .before)) in
+            let least : min room number ≡ number = omega arith in
+            let next : min room (number + 1) ≡ number + 1 = omega arith in
+            let at : length done ≡ number * n = u .long ∙ ap (λ (m : ℕ). m * n) least in
+            let stand : out ≡ done ++ drop (number * n) old = u .stands ∙ ap (λ (m : ℕ). done ++ drop m old) at in
+            let grown : flatMap e (take room (u .before ++ (x ∷ []))) ≡ done ++ e x =
+            ap (flatMap e) (take-more room (u .before) x (omega (arith, u .many))) ∙ flatMap-last e (take room (u .before)) x in
+            let long : length (done ++ e x) ≡ number * n + n = omega (arith, length-append done (e x), at, size) in
+            let first : take (number * n) (done ++ drop (number * n) old) ≡ done = take-at done (drop (number * n) old) (number * n) at in
+            let after : drop (number * n + n) (done ++ drop (number * n) old) ≡ drop (number * n + n) old =
+            subst (λ (m : ℕ). drop (m + n) (done ++ drop (number * n) old) ≡ drop n (drop (number * n) old)) at (drop-append-add done (drop (number * n) old) n) ∙ drop-drop n (number * n) old in
+            record {
+              before = u .before ++ (x ∷ []);
+              many = one-more;
+              rest = more;
+              long = rw (grown, next) (omega (arith, long, add-mul number 1 n, one-mul n));
+              stands =
+                  is ∙ ap (λ (ys : List A). take (number * n) ys ++ (e x ++ drop (number * n + n) ys)) stand
+                  ∙ rw (first, after, grown) (sym (append-assoc done (e x) (drop (number * n + n) old)) ∙ ap (λ (m : ℕ). (done ++ e x) ++ drop m old) (sym long));
+            }

@@ -1,2 +1,2 @@
 -- The definitions of this crate.
-pub mod Chosen
+pub mod Found

@@ -2,28 +2,31 @@
 // The walk is over marks, with profiles of marked choices and changes to marked strategies; a table is the case where every strategy is
 // marked. `equilibrium_search` finds them, and `profile_listing` writes them down.
 use refusal::BoolResult;
+use refusal::Listed;
+use refusal::ListingResult;
 use refusal::UsizeResult;
 use table::MAX_CELLS;
 use table::MAX_MARKS;
 ghost use mathlib.Core.Path.{_≡_};
-ghost use mathlib.Core.Option.{none};
+ghost use mathlib.Core.List.{map};
 ghost use lib.ListN.{length};
 ghost use Rattle.game.specs.Finite.{product};
 ghost use Rattle.game.specs.Solution.{equilibria};
-ghost use Rattle.refusal.specs.Told.{toldBool, toldUsize};
-ghost use Rattle.written_lists.specs.Outputs.{over};
+ghost use Rattle.refusal.specs.Told.{toldBool, toldListing};
+ghost use Rattle.written_lists.specs.Outputs.{joined, over};
+ghost use Rattle.written_lists.specs.Listing.{listedOf};
 ghost use Rattle.payoff_tables.specs.Limits.{maxMarks};
-ghost use Rattle.payoff_tables.specs.Table.{tableGame};
+ghost use Rattle.payoff_tables.specs.Table.{profilePart, tableGame};
 ghost use Rattle.payoff_tables.specs.Meaning.{Table};
 ghost use Rattle.marks.specs.Marks.{marked};
-ghost use Rattle.equilibria.specs.Answers.{isEquilibriumAnswer, countAnswer, listingAnswer, listedChoices, listedUtilities, equilibriaAnswer, equilibriaChoices, equilibriaUtilities};
+ghost use Rattle.equilibria.specs.Answers.{isEquilibriumAnswer, equilibriaAnswer, equilibriaChoices, equilibriaUtilities};
 
 // Tables of at most this many cells are walked with smaller arrays, which take less time to clear.
 const FEW_CELLS: usize = 2048;
 
-// Lists the equilibria among the marks: P choices of each into `choices`, in profile order, P payoffs of each, bits kept, into `utilities`,
-// and how many there are. Elements past those written keep their contents. Or 13, and nothing is written. The caller proves that the table
-// has none of refusals 1 to 7 and `total` profiles, and that there are as many marks as there may be.
+// Lists the equilibria among the marks, in profile order: P choices of each into `choices`, P payoffs of each, bits kept, into `utilities`, of
+// the first that both outputs hold whole; how many there are, and how many are written. Elements past those written keep their contents. The
+// caller proves that the table has none of refusals 1 to 7 and `total` profiles, and that there are as many marks as there may be.
 pub fn marked_equilibria(
     counts: &[usize],
     payoffs: &[f64],
@@ -31,13 +34,13 @@ pub fn marked_equilibria(
     total: usize,
     choices: &mut [usize],
     utilities: &mut [f64],
-) -> UsizeResult
+) -> Listed
     requires { ⌜ Table (now counts) (now payoffs) ⌝ }
     requires { ⌜ length (now marks) ≡ maxMarks ⌝ }
     requires { ⌜ total ≡ product (now counts) ⌝ }
-    ensures { λ r. ⌜ toldUsize r ≡ listingAnswer (now (counts .entry)) (now (payoffs .entry)) none (marked (now (marks .entry))) (length (now (choices .entry))) (length (now (utilities .entry))) ⌝ }
-    ensures { λ r. ⌜ now (choices .exit) ≡ over (listedChoices (now (counts .entry)) (now (payoffs .entry)) none (marked (now (marks .entry))) (length (now (choices .entry))) (length (now (utilities .entry)))) (now (choices .entry)) ⌝ }
-    ensures { λ r. ⌜ now (utilities .exit) ≡ over (listedUtilities (now (counts .entry)) (now (payoffs .entry)) none (marked (now (marks .entry))) (length (now (choices .entry))) (length (now (utilities .entry)))) (now (utilities .entry)) ⌝ }
+    ensures { λ r. ⌜ r ≡ listedOf (equilibria (tableGame (now (counts .entry)) (now (payoffs .entry))) (marked (now (marks .entry)))) (length (now (counts .entry))) (length (now (choices .entry))) (length (now (utilities .entry))) ⌝ }
+    ensures { λ r. ⌜ now (choices .exit) ≡ over (joined (r .written) (equilibria (tableGame (now (counts .entry)) (now (payoffs .entry))) (marked (now (marks .entry))))) (now (choices .entry)) ⌝ }
+    ensures { λ r. ⌜ now (utilities .exit) ≡ over (joined (r .written) (map (profilePart (now (counts .entry)) (now (payoffs .entry))) (equilibria (tableGame (now (counts .entry)) (now (payoffs .entry))) (marked (now (marks .entry)))))) (now (utilities .entry)) ⌝ }
 {
     if payoffs.len() <= FEW_CELLS {
         let mut known = [false; FEW_CELLS];
@@ -49,25 +52,6 @@ pub fn marked_equilibria(
     let mut found = [false; MAX_CELLS];
     equilibrium_search::find(counts, payoffs, marks, total, &mut known, &mut found);
     profile_listing::list_found(counts, payoffs, &found, total, choices, utilities)
-}
-
-// How many equilibria there are among the marks.
-fn marked_count(counts: &[usize], payoffs: &[f64], marks: &[bool], total: usize) -> usize
-    requires { ⌜ Table (now counts) (now payoffs) ⌝ }
-    requires { ⌜ length (now marks) ≡ maxMarks ⌝ }
-    requires { ⌜ total ≡ product (now counts) ⌝ }
-    ensures { λ r. ⌜ r ≡ length (equilibria (tableGame (now (counts .entry)) (now (payoffs .entry))) (marked (now (marks .entry)))) ⌝ }
-{
-    if payoffs.len() <= FEW_CELLS {
-        let mut known = [false; FEW_CELLS];
-        let mut found = [false; FEW_CELLS];
-        equilibrium_search::find(counts, payoffs, marks, total, &mut known, &mut found);
-        return profile_listing::count_found(&found, total);
-    }
-    let mut known = [false; MAX_CELLS];
-    let mut found = [false; MAX_CELLS];
-    equilibrium_search::find(counts, payoffs, marks, total, &mut known, &mut found);
-    profile_listing::count_found(&found, total)
 }
 
 // Whether the profile is an equilibrium, or the first of 1 to 7, 11, and 12 in player order.
@@ -93,37 +77,31 @@ pub fn is_equilibrium(counts: &[usize], payoffs: &[f64], profile: &[usize]) -> B
     }
 }
 
-// How many equilibria there are, or the first of 1 to 7.
-pub fn count_equilibria(counts: &[usize], payoffs: &[f64]) -> UsizeResult
-    ensures { λ r. ⌜ toldUsize r ≡ countAnswer (now (counts .entry)) (now (payoffs .entry)) ⌝ }
-{
-    match table::table_profile_count(counts, payoffs) {
-        UsizeResult::Err(e) => UsizeResult::Err(e),
-        UsizeResult::Ok(total) => {
-            let marks = [true; MAX_MARKS];
-            UsizeResult::Ok(marked_count(counts, payoffs, &marks, total))
-        }
-    }
-}
-
-// All equilibria, each once, in profile order: P choices of each into `choices`, P payoffs of each, bits kept, into `utilities`, and how
-// many there are. Elements past those written keep their contents. Or the first of 1 to 7, and 13 where either output is too short for all,
-// and nothing is written.
+// The equilibria, each once, in profile order: P choices of each into `choices`, P payoffs of each, bits kept, into `utilities`, of the first
+// that both outputs hold whole; how many there are, and how many are written. Elements past those written keep their contents. With empty
+// outputs it is a count. Or the first of 1 to 7, and nothing is written.
 pub fn equilibria(
     counts: &[usize],
     payoffs: &[f64],
     choices: &mut [usize],
     utilities: &mut [f64],
-) -> UsizeResult
-    ensures { λ r. ⌜ toldUsize r ≡ equilibriaAnswer (now (counts .entry)) (now (payoffs .entry)) (length (now (choices .entry))) (length (now (utilities .entry))) ⌝ }
+) -> ListingResult
+    ensures { λ r. ⌜ toldListing r ≡ equilibriaAnswer (now (counts .entry)) (now (payoffs .entry)) (length (now (choices .entry))) (length (now (utilities .entry))) ⌝ }
     ensures { λ r. ⌜ now (choices .exit) ≡ over (equilibriaChoices (now (counts .entry)) (now (payoffs .entry)) (length (now (choices .entry))) (length (now (utilities .entry)))) (now (choices .entry)) ⌝ }
     ensures { λ r. ⌜ now (utilities .exit) ≡ over (equilibriaUtilities (now (counts .entry)) (now (payoffs .entry)) (length (now (choices .entry))) (length (now (utilities .entry)))) (now (utilities .entry)) ⌝ }
 {
     match table::table_profile_count(counts, payoffs) {
-        UsizeResult::Err(e) => UsizeResult::Err(e),
+        UsizeResult::Err(e) => ListingResult::Err(e),
         UsizeResult::Ok(total) => {
             let marks = [true; MAX_MARKS];
-            marked_equilibria(counts, payoffs, &marks, total, choices, utilities)
+            ListingResult::Ok(marked_equilibria(
+                counts,
+                payoffs,
+                &marks,
+                total,
+                choices,
+                utilities,
+            ))
         }
     }
 }

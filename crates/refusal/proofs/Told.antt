@@ -8,13 +8,15 @@ use native.Mathlib.Omega.{arith}
 use lib.Dec.{T}
 use Rattle.refusal.specs.Refusal.{Refusal, numberOf, _then_}
 use Rattle.refusal.specs.declared.NormalFormError.{NormalFormError}
-use Rattle.refusal.specs.Told.{Told, values, refused, unless, toldOf, status, tells, toldUnit, toldUsize, toldBool}
+use Rattle.refusal.specs.Told.{Told, values, refused, unless, toldOf, status, tells, toldUnit, toldUsize, toldBool, toldListing}
 use Rattle.refusal.specs.declared.UnitResult.{UnitResult}
 use Rattle.refusal.specs.declared.UnitResult.the-variants.{Ok as ok, Err as err}
 use Rattle.refusal.specs.declared.UsizeResult.{UsizeResult}
 use Rattle.refusal.specs.declared.UsizeResult.the-variants.{Ok, Err}
 use Rattle.refusal.specs.declared.BoolResult.{BoolResult}
 use Rattle.refusal.specs.declared.BoolResult.the-variants.{Ok as okBool, Err as errBool}
+use Rattle.refusal.specs.declared.ListingResult.{ListingResult}
+use Rattle.refusal.specs.declared.ListingResult.the-variants.{Ok as okListing, Err as errListing}
 use Rattle.refusal.proofs.Refusal.{number-once, number-some, some-none}
 
 module _ {A : Type 0} where
@@ -79,3 +81,9 @@ told-bool-once (okBool a) (okBool b) h = ap okBool (cc)
 told-bool-once (okBool a) (errBool e) h = absurd (apart a (numberOf e) h)
 told-bool-once (errBool d) (okBool b) h = absurd (apart b (numberOf d) (sym h))
 told-bool-once (errBool d) (errBool e) h = ap errBool (number-once d e (cc))
+
+pub told-listing-once : (r s : ListingResult) → toldListing r ≡ toldListing s → r ≡ s
+told-listing-once (okListing k) (okListing l) h = ap okListing (cc)
+told-listing-once (okListing k) (errListing e) h = absurd (apart k (numberOf e) h)
+told-listing-once (errListing d) (okListing l) h = absurd (apart l (numberOf d) (sym h))
+told-listing-once (errListing d) (errListing e) h = ap errListing (number-once d e (cc))

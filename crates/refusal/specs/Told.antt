@@ -10,6 +10,9 @@ use Rattle.refusal.specs.declared.UsizeResult.{UsizeResult}
 use Rattle.refusal.specs.declared.UsizeResult.the-variants.{Ok, Err}
 use Rattle.refusal.specs.declared.BoolResult.{BoolResult}
 use Rattle.refusal.specs.declared.BoolResult.the-variants.{Ok as okBool, Err as errBool}
+use Rattle.refusal.specs.declared.Listed.{Listed}
+use Rattle.refusal.specs.declared.ListingResult.{ListingResult}
+use Rattle.refusal.specs.declared.ListingResult.the-variants.{Ok as okListing, Err as errListing}
 use Rattle.refusal.specs.declared.UsizeOption.{UsizeOption}
 use Rattle.refusal.specs.declared.UsizeOption.the-variants.{None, Some}
 
@@ -55,6 +58,10 @@ toldUsize (Err e) = refused (numberOf e)
 abbrev pub toldBool : BoolResult → Told Bool
 toldBool (okBool b) = values b
 toldBool (errBool e) = refused (numberOf e)
+
+abbrev pub toldListing : ListingResult → Told Listed
+toldListing (okListing l) = values l
+toldListing (errListing e) = refused (numberOf e)
 
 -- a number or none
 abbrev pub optionUsize : UsizeOption → Option ℕ

@@ -77,6 +77,18 @@ pub enum BoolResult {
     Err(NormalFormError),
 }
 
+// What a listing tells: how many entries there are in all, and how many of them, from the first on, are written.
+pub struct Listed {
+    pub total: usize,
+    pub written: usize,
+}
+
+// Rust's `Result<Listed, NormalFormError>`.
+pub enum ListingResult {
+    Ok(Listed),
+    Err(NormalFormError),
+}
+
 // Rust's `Option<usize>`.
 pub enum UsizeOption {
     None,

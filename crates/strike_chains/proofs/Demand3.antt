@@ -3,7 +3,7 @@
 use mathlib.Core.Path.{_≡_, refl, sym, ap, ap₂, _∙_, subst}
 use mathlib.Core.List.{List, map}
 use mathlib.Core.Option.{none}
-use Prim.Native.Nat.{ℕ, _*_}
+use Prim.Native.Nat.{ℕ}
 use lib.ListN.{length}
 use lib.Ieee.{Float}
 use Rattle.game.specs.Game.{Game, Strategy, Marks, whole}
@@ -13,20 +13,20 @@ use Rattle.game.specs.Strikes.{run, runFrom}
 use Rattle.game.proofs.Demand3 as Theory
 use Rattle.refusal.specs.Refusal.{Refusal}
 use Rattle.refusal.specs.Told.{Told, values, status}
-use Rattle.written_lists.specs.Outputs.{roomRefusal, joined, over}
-use Rattle.written_lists.proofs.Outputs.{room-fits}
-use Rattle.payoff_tables.specs.Table.{profilePart, tableGame}
+use Rattle.written_lists.specs.Outputs.{over}
+use Rattle.written_lists.specs.Listing.{listedOf}
+use Rattle.payoff_tables.specs.Table.{tableGame}
 use Rattle.payoff_tables.specs.Meaning.{Table}
 use Rattle.payoff_tables.specs.Checks.{tableRefusal}
 use Rattle.payoff_tables.proofs.Checks.{table-law}
 use Rattle.payoff_tables.proofs.Game.{game-playable}
-use Rattle.equilibria.specs.Answers.{tableEquilibria, listingAnswer, listedChoices, listedUtilities, equilibriaAnswer, equilibriaChoices, equilibriaUtilities}
-use Rattle.equilibria.proofs.Listing.{same-answer, same-choices, same-utilities}
+use Rattle.equilibria.specs.Answers.{tableEquilibria, listingAnswer, listedChoices, listedUtilities}
+use Rattle.equilibria.proofs.Listing.{listing-all}
 use Rattle.survivors.specs.declared.Survivors.{Survivors}
 use Rattle.survivors.specs.Survivors.{marksOf, freshOf}
 use Rattle.strikes.specs.Answers.{survivorsRefusal}
 use Rattle.strike_chains.specs.Answers.{chain, acceptedOf, dominatorOf, answersSaid}
-use Rattle.strike_chains.specs.Demand3.{SameListing, HoldsAll, Demand3}
+use Rattle.strike_chains.specs.Demand3.{SameTotal, SameListing, HoldsAll, Demand3}
 use Rattle.survivors.proofs.Marks.{fresh-marks, count-fresh}
 use Rattle.survivors.proofs.Foreign.{own-not, foreign-law}
 use Rattle.strikes.proofs.Cases.{not-foreign}
@@ -42,48 +42,36 @@ module _ (counts : List ℕ) (payoffs : List Float) (t : Table counts payoffs) w
 
   -- ---- the listings
 
-  -- whatever outputs hold all of the table's equilibria, the same is told and written
-  module _ (a b : ℕ) (h : HoldsAll counts payoffs a) (k : HoldsAll counts payoffs b) where
-    fits : roomRefusal (length (tableEquilibria counts payoffs) * length counts) a b ≡ none
-    fits = room-fits _ a b h k
-
-    held-answer : equilibriaAnswer counts payoffs a b ≡ values (length (tableEquilibria counts payoffs))
-    unfolding listingAnswer
-    held-answer = rw (none-applies, fits)
-
-    held-choices : equilibriaChoices counts payoffs a b ≡ joined (length (tableEquilibria counts payoffs)) (tableEquilibria counts payoffs)
-    unfolding listedChoices
-    held-choices = rw held-answer
-
-    held-utilities :
-        equilibriaUtilities counts payoffs a b ≡ joined (length (tableEquilibria counts payoffs)) (map (profilePart counts payoffs) (tableEquilibria counts payoffs))
-    unfolding listedUtilities
-    held-utilities = rw held-answer
-
   module _ (v : Survivors) (k : Good counts payoffs v) (is : equilibria g (marksOf v) ≡ equilibria g (whole g)) where
     own : survivorsRefusal counts payoffs v ≡ none
     own = not-foreign counts payoffs v none-applies (own-not counts v (k .own))
 
+    -- What both listings refuse is the same, and so are the profiles that they list.
     same-listing : (a b : ℕ) → SameListing counts payoffs v a b a b
     same-listing a b =
+        let same = own ∙ sym none-applies in
         record {
-          answer = ap (λ (r : Refusal). listingAnswer counts payoffs r (marksOf v) a b) own ∙ same-answer counts payoffs a b (marksOf v) (whole g) is none
-              ∙ sym (ap (λ (r : Refusal). listingAnswer counts payoffs r (whole g) a b) none-applies);
-          choices = ap (λ (r : Refusal). listedChoices counts payoffs r (marksOf v) a b) own ∙ same-choices counts payoffs a b (marksOf v) (whole g) is none
-              ∙ sym (ap (λ (r : Refusal). listedChoices counts payoffs r (whole g) a b) none-applies);
-          utilities = ap (λ (r : Refusal). listedUtilities counts payoffs r (marksOf v) a b) own ∙ same-utilities counts payoffs a b (marksOf v) (whole g) is none
-              ∙ sym (ap (λ (r : Refusal). listedUtilities counts payoffs r (whole g) a b) none-applies);
+          answer = ap₂ (λ (r : Refusal) (es : List (List ℕ)). listingAnswer counts payoffs r es a b) same is;
+          choices = ap₂ (λ (r : Refusal) (es : List (List ℕ)). listedChoices counts payoffs r es a b) same is;
+          utilities = ap₂ (λ (r : Refusal) (es : List (List ℕ)). listedUtilities counts payoffs r es a b) same is;
         }
 
     same-held : (a b c d : ℕ) → HoldsAll counts payoffs a → HoldsAll counts payoffs b → HoldsAll counts payoffs c → HoldsAll counts payoffs d
         → SameListing counts payoffs v a b c d
     same-held a b c d i j l m =
         let s = same-listing a b in
+        let es : List (List ℕ) = tableEquilibria counts payoffs in
+        let first = listing-all counts payoffs es a b (t .shape .some) i j (tableRefusal counts payoffs) none-applies in
+        let second = listing-all counts payoffs es c d (t .shape .some) l m (tableRefusal counts payoffs) none-applies in
         record {
-          answer = s .answer ∙ held-answer a b i j ∙ sym (held-answer c d l m);
-          choices = s .choices ∙ held-choices a b i j ∙ sym (held-choices c d l m);
-          utilities = s .utilities ∙ held-utilities a b i j ∙ sym (held-utilities c d l m);
+          answer = s .answer ∙ first .0 ∙ sym (second .0);
+          choices = s .choices ∙ first .1 ∙ sym (second .1);
+          utilities = s .utilities ∙ first .2 ∙ sym (second .2);
         }
+
+    same-total : (a b c d : ℕ) → SameTotal counts payoffs v a b c d
+    unfolding listingAnswer listedOf
+    same-total a b c d = rw (own, none-applies) (ap (λ (es : List (List ℕ)). values (length es)) is)
 
   -- ---- the chain and the machine
 
@@ -108,6 +96,7 @@ module _ (counts : List ℕ) (payoffs : List Float) (t : Table counts payoffs) w
         calls = r .calls;
         marks = r .marks;
         own = foreign-law counts (left cs) .1 (r .stays .own);
+        same-total = same-total (left cs) (r .stays) is;
         same-listing = same-listing (left cs) (r .stays) is;
         same-held = same-held (left cs) (r .stays) is;
         number = refl;

@@ -14,7 +14,7 @@ use Rattle.game.specs.Finite.{sum}
 use Rattle.game.specs.Game.{Strategy}
 use Rattle.game.specs.Strikes.{run}
 use Rattle.game.specs.Meaning.{Undominated}
-use Rattle.refusal.specs.Told.{Told}
+use Rattle.refusal.specs.Told.{Told, toldOf}
 use Rattle.payoff_tables.specs.Table.{tableGame}
 use Rattle.equilibria.specs.Answers.{tableEquilibria, equilibriaAnswer, equilibriaChoices, equilibriaUtilities}
 use Rattle.survivors.specs.declared.Survivors.{Survivors}
@@ -24,8 +24,12 @@ use Rattle.strike_chains.specs.Answers.{chain, acceptedOf}
 use Rattle.strike_chains.specs.Meaning.{Struck}
 
 module _ (counts : List ℕ) (payoffs : List Float) where
-  -- the survivors' listing into outputs of lengths a and b, and the whole table's into outputs of lengths c and d, return and write the
-  -- same: entry for entry and bit for bit, or the same refusal and nothing
+  -- the survivors' listing into outputs of lengths a and b, and the whole table's into outputs of lengths c and d, tell the same total, or
+  -- the same refusal
+  abbrev pub SameTotal : Survivors → (a b c d : ℕ) → Type 0
+  SameTotal v a b c d = toldOf (λ l. l .total) (survivingAnswer counts payoffs v a b) ≡ toldOf (λ l. l .total) (equilibriaAnswer counts payoffs c d)
+
+  -- they tell the same number written too, and write the same: entry for entry and bit for bit, or nothing
   pub record SameListing (v : Survivors) (a b c d : ℕ) : Type 0 where
     pub answer : survivingAnswer counts payoffs v a b ≡ equilibriaAnswer counts payoffs c d
     pub choices : survivingChoices counts payoffs v a b ≡ equilibriaChoices counts payoffs c d
@@ -47,9 +51,11 @@ module _ (counts : List ℕ) (payoffs : List Float) where
     pub marks : marksOf v ≡ run (tableGame counts payoffs) cs .marks
     -- The survivors are not foreign.
     pub own : foreignRefusal counts v ≡ none
-    -- The equilibria listed over the survivors are those of the whole table, for outputs of equal lengths.
+    -- There are as many equilibria over the survivors as of the whole table, whatever the outputs' lengths.
+    pub same-total : (a b c d : ℕ) → SameTotal v a b c d
+    -- Those written are the same where the outputs have equal lengths
     pub same-listing : (a b : ℕ) → SameListing v a b a b
-    -- They are so for any outputs that hold them all.
+    -- or hold them all.
     pub same-held : (a b c d : ℕ) → HoldsAll a → HoldsAll b → HoldsAll c → HoldsAll d → SameListing v a b c d
     -- Accepted strikes are counted by their answers.
     pub number : n ≡ acceptedOf ans

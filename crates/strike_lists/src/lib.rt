@@ -10,7 +10,7 @@ use table::StrategySpace;
 ghost use mathlib.Core.Path.{_≡_};
 ghost use mathlib.Core.Bool.{cond};
 ghost use mathlib.Core.List.{map};
-ghost use Prim.Native.Nat.{ℕ, min, _<_, _≤_};
+ghost use Prim.Native.Nat.{ℕ, _<_, _≤_};
 ghost use lib.ListN.{length, set};
 ghost use Rattle.refusal.specs.Told.{values, refused, toldUsize, status, tells};
 ghost use Rattle.written_lists.specs.Outputs.{over};
@@ -31,13 +31,6 @@ fn too_short() -> StrikeResult
         NormalFormError::OutputTooShort,
         survivors::all_marked(space),
     )
-}
-
-// The lesser of two numbers.
-pub fn lesser(a: usize, b: usize) -> usize
-    ensures { λ r. ⌜ r ≡ min a b ⌝ }
-{
-    if b < a { b } else { a }
 }
 
 // Writes the answer to a strike at a place of the two outputs: 0 or the refusal's number, and the dominator, 0 where refused. 1 where it was
@@ -87,7 +80,7 @@ fn strike_each(
     ensures { λ r. ⌜ now (answers .exit) ≡ over (map status (chain (now (counts .entry)) (now (payoffs .entry)) (callsOf (now (players .entry)) (now (strategies .entry))) .answers)) (now (answers .entry)) ⌝ }
     ensures { λ r. ⌜ now (dominators .exit) ≡ over (map dominatorOf (chain (now (counts .entry)) (now (payoffs .entry)) (callsOf (now (players .entry)) (now (strategies .entry))) .answers)) (now (dominators .entry)) ⌝ }
 {
-    let number = lesser(players.len(), strategies.len());
+    let number = table::lesser(players.len(), strategies.len());
     // the table has P payoffs for each profile
     let profiles = payoffs.len() / counts.len();
     let mut left = survivors;
@@ -149,7 +142,7 @@ pub fn strikes(
     match answer {
         UnitResult::Err(e) => survivor_calls::refuse(e, survivors),
         UnitResult::Ok => {
-            let number = lesser(players.len(), strategies.len());
+            let number = table::lesser(players.len(), strategies.len());
             if answers.len() < number {
                 return too_short();
             }

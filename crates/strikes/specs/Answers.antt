@@ -6,9 +6,11 @@ use mathlib.Core.Option.{none, some}
 use Prim.Native.Nat.{ℕ}
 use lib.Ieee.{Float}
 use Rattle.game.specs.Game.{Strategy}
+use Rattle.game.specs.Solution.{equilibria}
 use Rattle.game.specs.Strikes.{Answer, refused, accepted, answer}
 use Rattle.refusal.specs.Refusal.{Refusal, numberOf, _then_}
 use Rattle.refusal.specs.Told.{Told, values, refused as toldRefused}
+use Rattle.refusal.specs.declared.Listed.{Listed}
 use Rattle.payoff_tables.specs.Table.{tableGame}
 use Rattle.payoff_tables.specs.Checks.{tableRefusal}
 use Rattle.equilibria.specs.Answers.{listingAnswer, listedChoices, listedUtilities}
@@ -46,13 +48,17 @@ module _ (counts : List ℕ) (payoffs : List Float) where
   unfoldable pub strikeLeaves : Survivors → Strategy → Survivors
   strikeLeaves v c = handedBack v c (strikeAnswer v c)
 
-  -- ---- the survivors' listing, which refuses 1 to 7, 16, then 13
+  -- ---- the survivors' listing, which refuses 1 to 7, then 16
 
-  abbrev pub survivingAnswer : Survivors → ℕ → ℕ → Told ℕ
-  survivingAnswer v = listingAnswer counts payoffs (survivorsRefusal v) (marksOf v)
+  -- the equilibria in profiles of survivors, with changes to survivors only
+  abbrev pub survivingEquilibria : Survivors → List (List ℕ)
+  survivingEquilibria v = equilibria (tableGame counts payoffs) (marksOf v)
+
+  abbrev pub survivingAnswer : Survivors → ℕ → ℕ → Told Listed
+  survivingAnswer v = listingAnswer counts payoffs (survivorsRefusal v) (survivingEquilibria v)
 
   abbrev pub survivingChoices : Survivors → ℕ → ℕ → List ℕ
-  survivingChoices v = listedChoices counts payoffs (survivorsRefusal v) (marksOf v)
+  survivingChoices v = listedChoices counts payoffs (survivorsRefusal v) (survivingEquilibria v)
 
   abbrev pub survivingUtilities : Survivors → ℕ → ℕ → List Float
-  survivingUtilities v = listedUtilities counts payoffs (survivorsRefusal v) (marksOf v)
+  survivingUtilities v = listedUtilities counts payoffs (survivorsRefusal v) (survivingEquilibria v)

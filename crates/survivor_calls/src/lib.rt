@@ -1,5 +1,6 @@
 // The calls on survivors: a strike takes a strategy out of a game because another surviving strategy of its player strictly dominates it
 // against all surviving choices of the others; and the equilibria among the survivors.
+use refusal::ListingResult;
 use refusal::NormalFormError;
 use refusal::UsizeOption;
 use refusal::UsizeResult;
@@ -11,7 +12,7 @@ ghost use Rattle.game.specs.Finite.{product};
 ghost use Rattle.game.specs.Game.{strategy as named};
 ghost use Rattle.game.specs.Strikes.{answer};
 ghost use Rattle.refusal.specs.Refusal.{numberOf};
-ghost use Rattle.refusal.specs.Told.{refused, toldUsize};
+ghost use Rattle.refusal.specs.Told.{refused, toldUsize, toldListing};
 ghost use Rattle.written_lists.specs.Outputs.{over};
 ghost use Rattle.payoff_tables.specs.Table.{tableGame};
 ghost use Rattle.payoff_tables.specs.Meaning.{Table};
@@ -105,27 +106,35 @@ pub fn strike(
 // ---- the survivors' listing
 
 // The equilibria among the survivors, in profiles of survivors and with changes to survivors only, each once, in profile order: P choices of
-// each into `choices`, P payoffs of each, bits kept, into `utilities`, and how many there are. Elements past those written keep their
-// contents. Or the first of 1 to 7, 16, and 13 where either output is too short for all, and nothing is written.
+// each into `choices`, P payoffs of each, bits kept, into `utilities`, of the first that both outputs hold whole; how many there are, and how
+// many are written. Elements past those written keep their contents. With empty outputs it is a count. Or the first of 1 to 7 and 16, and
+// nothing is written.
 pub fn surviving_equilibria(
     counts: &[usize],
     payoffs: &[f64],
     survivors: Survivors,
     choices: &mut [usize],
     utilities: &mut [f64],
-) -> UsizeResult
-    ensures { λ r. ⌜ toldUsize r ≡ survivingAnswer (now (counts .entry)) (now (payoffs .entry)) survivors (length (now (choices .entry))) (length (now (utilities .entry))) ⌝ }
+) -> ListingResult
+    ensures { λ r. ⌜ toldListing r ≡ survivingAnswer (now (counts .entry)) (now (payoffs .entry)) survivors (length (now (choices .entry))) (length (now (utilities .entry))) ⌝ }
     ensures { λ r. ⌜ now (choices .exit) ≡ over (survivingChoices (now (counts .entry)) (now (payoffs .entry)) survivors (length (now (choices .entry))) (length (now (utilities .entry)))) (now (choices .entry)) ⌝ }
     ensures { λ r. ⌜ now (utilities .exit) ≡ over (survivingUtilities (now (counts .entry)) (now (payoffs .entry)) survivors (length (now (choices .entry))) (length (now (utilities .entry)))) (now (utilities .entry)) ⌝ }
 {
     match table::table_profile_count(counts, payoffs) {
-        UsizeResult::Err(e) => UsizeResult::Err(e),
+        UsizeResult::Err(e) => ListingResult::Err(e),
         UsizeResult::Ok(total) => {
             if survivors::is_foreign(counts, survivors) {
-                return UsizeResult::Err(NormalFormError::ForeignSurvivors);
+                return ListingResult::Err(NormalFormError::ForeignSurvivors);
             }
             let marks = survivors.marks;
-            pure_nash::marked_equilibria(counts, payoffs, &marks, total, choices, utilities)
+            ListingResult::Ok(pure_nash::marked_equilibria(
+                counts,
+                payoffs,
+                &marks,
+                total,
+                choices,
+                utilities,
+            ))
         }
     }
 }

@@ -7,7 +7,7 @@ use utility::Utility;
 use utility::UtilityResult;
 ghost use mathlib.Core.Path.{_≡_};
 ghost use mathlib.Core.Option.{none};
-ghost use Prim.Native.Nat.{_+_, _*_, _<_};
+ghost use Prim.Native.Nat.{_+_, _*_, min, _<_};
 ghost use lib.Dec.{ltb};
 ghost use lib.ListN.{length};
 ghost use Rattle.refusal.specs.Told.{toldUnit, toldUsize, unless};
@@ -238,4 +238,11 @@ pub fn stride(counts: &[usize], player: usize) -> usize
         stride *= counts[p];
     }
     stride
+}
+
+// The lesser of two numbers.
+pub fn lesser(a: usize, b: usize) -> usize
+    ensures { λ r. ⌜ r ≡ min a b ⌝ }
+{
+    if b < a { b } else { a }
 }

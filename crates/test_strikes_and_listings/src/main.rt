@@ -79,7 +79,7 @@ fn strike_each(
     ensures { λ r. ⌜ r .accepted ≡ acceptedOf (chainFrom (now (counts .entry)) (now (payoffs .entry)) survivors (callsOf (now (players .entry)) (now (strategies .entry))) .answers) ⌝ }
     ensures { λ r. ⌜ r .survivors ≡ chainFrom (now (counts .entry)) (now (payoffs .entry)) survivors (callsOf (now (players .entry)) (now (strategies .entry))) .survivors ⌝ }
 {
-    let number = strike_lists::lesser(players.len(), strategies.len());
+    let number = table::lesser(players.len(), strategies.len());
     let mut left = survivors;
     let mut accepted: usize = 0;
     let mut i: usize = 0;

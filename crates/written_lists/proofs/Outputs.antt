@@ -4,7 +4,7 @@ use mathlib.Core.Path.{_≡_, refl, sym, ap, ap₂, _∙_}
 use mathlib.Core.Bool.{Bool}
 use mathlib.Core.List.{List, [], _∷_, _++_, map, flatMap}
 use mathlib.Core.Option.{none, some}
-use Prim.Native.Nat.{ℕ, suc, _+_, _≤_, _<_}
+use Prim.Native.Nat.{ℕ, zero, suc, _+_, _≤_, _<_}
 use native.Mathlib.Numerals.{add-one}
 use native.Mathlib.Omega.{arith}
 use borrow.Author.Tests.{lt-ltb, le-ltb}
@@ -14,7 +14,7 @@ use lib.Seq.{drop-cons, set-append-seam, append-snoc, take-suc, length-take-le}
 use Rattle.refusal.specs.Refusal.{when, _then_}
 use Rattle.refusal.specs.Told.{Told, refused}
 use Rattle.refusal.specs.declared.NormalFormError.the-variants.{OutputTooShort}
-use Rattle.written_lists.specs.Outputs.{roomRefusal, over}
+use Rattle.written_lists.specs.Outputs.{roomRefusal, joined, over}
 
 module _ {A : Type 0} where
   -- The output keeps its length.
@@ -40,6 +40,15 @@ pub flat-map : {A B : Type 0} (f : B → List A) (xs : List B) → flatMap (λ x
 unfolding flatMap
 flat-map f [] = refl
 flat-map f (x ∷ xs) = rw (flat-map f xs)
+
+-- The parts of the first n entries.
+pub joined-map : {A B : Type 0} (f : B → List A) (n : ℕ) (xs : List B) → joined n (map f xs) ≡ flatMap f (take n xs)
+joined-map f n xs = ap (flatMap (λ x. x)) (first n xs) ∙ flat-map f (take n xs)
+  where
+    first : (n : ℕ) (xs : List _) → take n (map f xs) ≡ map f (take n xs)
+    first zero xs = refl
+    first (suc n) [] = refl
+    first (suc n) (x ∷ xs) = ap (λ ys. f x ∷ ys) (first n xs)
 
 -- ---- whether there is room
 

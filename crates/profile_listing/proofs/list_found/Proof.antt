@@ -1,109 +1,267 @@
--- `profile_listing::list_found` meets its contract: the count decides whether there is room, and the list is written where there is. Assumes nothing.
+-- `profile_listing::list_found` meets its contract: in both outputs those before the k-th profile are written, as far as there is room, and
+-- the rest is as it was (`Listing`). Assumes nothing.
+use mathlib.Core.Path.{_≡_, sym, ap, _∙_, subst⁻¹}
+use mathlib.Core.Bool.{Bool, true, false}
+use mathlib.Core.List.{List, [], flatMap}
+use mathlib.Core.Logic.{⊎-elim, _↔_}
+use Prim.Native.Nat.{ℕ, suc, _+_, _*_, _-_, min, _≤_, _<_}
+use native.Mathlib.Nat.{le-refl, suc-mul, mul-le-mul-right}
 use native.Mathlib.Omega.{arith}
-use native.Mathlib.Nat.{le-trans, mul-le-mul-right}
-use mathlib.Core.Path.{_≡_, sym, ap, _∙_, subst}
-use mathlib.Core.List.{List}
-use Prim.Native.Nat.{ℕ, _*_, _≤_, _<_}
-use lib.ListN.{length}
+use borrow.Author.Needs.{needs}
+use lib.ListN.{length, getD, take}
 use lib.Ieee.{Float}
 use Rattle.game.specs.Finite.{product}
 use Rattle.game.specs.Game.{profiles}
+use Rattle.game.proofs.Finite.{at-most}
 use Rattle.game.proofs.Game.{length-profiles}
-use Rattle.refusal.specs.Told.{values}
-use Rattle.refusal.specs.declared.NormalFormError.the-variants.{OutputTooShort}
+use Rattle.refusal.specs.declared.Listed.{Listed}
 use Rattle.written_lists.specs.Outputs.{over}
-use Rattle.written_lists.proofs.Outputs.{first-short, second-short, room-fits}
+use Rattle.written_lists.specs.Listing.{entriesHeld, listedOf}
+use Rattle.written_lists.proofs.Outputs.{joined-map}
+use Rattle.written_lists.proofs.Listing.{listed-is, held-law, take-written}
 use Rattle.payoff_tables.specs.Limits.{maxCells}
-use Rattle.profile_listing.specs.Chosen.{chosen}
-use Rattle.profile_listing.proofs.Listing.{found-many, chosen-most, found-fits, found-short}
-use borrow.Author.Needs.{needs}
+use Rattle.payoff_tables.specs.Table.{offset, profilePart}
+use Rattle.payoff_tables.proofs.Offsets.{nth-profile, offset-nth}
+use Rattle.payoff_tables.proofs.Table.{part-length}
+use Rattle.payoff_tables.proofs.Walk.{shape-room}
+use Rattle.profile_listing.specs.Found.{foundProfiles}
+use Rattle.profile_listing.proofs.Write.{Listing, listing-none, listing-length, listing-end, listing-no, listing-full, listing-yes}
 use Rattle.profile_listing.proofs.list_found.Statement.{statement}
 use Rattle.profile_listing.proofs.list_found.Tie as tie
 
--- how many are found, and that P for each of them, and for each profile, are no more than there may be cells
-many : (c : tie.After-count-found) → let s = c .before .before .before .before .before .before .args in
-    (c .count-found .result ≡ length (chosen (s .found .now) (profiles (s .counts .now)))) × (c .count-found .result * length (s .counts .now) ≤ maxCells)
-    × (s .total * length (s .counts .now) ≤ maxCells)
-many c =
-    let s = c .before .before .before .before .before .before in
-    let cs = s .args .counts .now in
-    let is = c .count-found .ensures ∙ found-many cs (s .args .found .now) (s .args .total) (s .pre .1 .0) in
-    let most : c .count-found .result ≤ product cs = rw (is, ← length-profiles cs) (chosen-most (s .args .found .now) (profiles cs)) in
-    (is, le-trans (mul-le-mul-right (length cs) most) (s .pre .0 .shape .room), rw (s .pre .1 .0) (s .pre .0 .shape .room))
+-- whether a profile is found
+abbrev test : List ℕ → List Bool → List ℕ → Bool
+test counts found x = getD found (offset counts x) false
 
-count-found-requires : tie.Need-count-found-requires
-count-found-requires c κs = search needs
+abbrev Inv-loop : tie.InvT-loop
+Inv-loop counts payoffs found total choices₀ utilities₀ players room number₀ written₀ k₀ choices utilities number written k =
+    let held : ℕ = entriesHeld (length counts) (length choices₀) (length utilities₀) in
+    (k ≤ total)
+    × (number ≤ k)
+    × (written ≡ min number held)
+    × Listing (λ x. x) (test counts found) (profiles counts) (length counts) held choices₀ choices number k
+    × Listing (profilePart counts payoffs) (test counts found) (profiles counts) (length counts) held utilities₀ utilities number k
 
-mul-if1 : tie.Need-mul-if1
-mul-if1 c = omega (arith, many c)
+abbrev μ-loop : tie.MeasureT-loop
+μ-loop counts payoffs found total choices₀ utilities₀ players room number₀ written₀ k₀ choices utilities number written k = total - k
 
-returns : tie.Need-returns
+abbrev start : tie.At-loop Inv-loop μ-loop → tie.Start Inv-loop μ-loop
+start c = c .before .before .before .before .before .before .before
+
+-- what the outputs hold
+module _ (c : tie.At-loop Inv-loop μ-loop) where
+  abbrev counts : List ℕ
+  counts = start c .args .counts .now
+
+  abbrev payoffs : List Float
+  payoffs = start c .args .payoffs .now
+
+  abbrev found : List Bool
+  found = start c .args .found .now
+
+  abbrev a : ℕ
+  a = length (start c .args .choices .now)
+
+  abbrev b : ℕ
+  b = length (start c .args .utilities .now)
+
+  abbrev held : ℕ
+  held = entriesHeld (length counts) a b
+
+  -- what the two outputs hold when `number` are found before the k-th
+  abbrev Choices : List ℕ → ℕ → ℕ → Type 0
+  Choices = Listing (λ x. x) (test counts found) (profiles counts) (length counts) held (start c .args .choices .now)
+
+  abbrev Utilities : List Float → ℕ → ℕ → Type 0
+  Utilities = Listing (profilePart counts payoffs) (test counts found) (profiles counts) (length counts) held (start c .args .utilities .now)
+
+  -- k entries are held exactly where both outputs have room for them
+  held-law-here : (k : ℕ) → (k ≤ held) ↔ ((k * length counts ≤ a) × (k * length counts ≤ b))
+  held-law-here = held-law (length counts) a b (start c .pre .0 .shape .some)
+
+  -- both outputs are as long as they were
+  lengths : (length (c .loop .choices) ≡ a) × (length (c .loop .utilities) ≡ b)
+  lengths =
+      let most = held-law-here held .0 (le-refl held) in (
+        listing-length _ _ _ _ _ _ (c .loop .choices) (c .loop .number) (c .loop .k) (c .loop .inv .3) (most .0),
+        listing-length _ _ _ _ _ _ (c .loop .utilities) (c .loop .number) (c .loop .k) (c .loop .inv .4) (most .1),
+      )
+
+-- the profile of a turn
+module _ (i : tie.In-loop Inv-loop μ-loop) where
+  abbrev at : tie.At-loop Inv-loop μ-loop
+  at = i .before
+
+  abbrev k : ℕ
+  k = at .loop .k
+
+  inside : k < product (counts at)
+  inside = rw (← start at .pre .1 .0) (i .loop-test .taken)
+
+  -- there are few profiles, and an entry more fits a machine's number
+  few : (k < maxCells) × (at .loop .written * length (counts at) + length (counts at) ≤ maxCells)
+  few =
+      let s = start at in
+      let room = s .pre .0 .shape .room in
+      let least : suc (at .loop .written) ≤ product (counts at) = omega (arith, at .loop .inv .1, at .loop .inv .2, inside) in
+      (omega (arith, inside, shape-room (s .pre .0 .shape)), omega (arith, suc-mul (at .loop .written) (length (counts at)), mul-le-mul-right (length (counts at)) least, room))
+
+  -- the test of a turn is the profile's
+  tested : getD (found at) k false ≡ test (counts at) (found at) (getD (profiles (counts at)) k [])
+  tested = sym (ap (λ (n : ℕ). getD (found at) n false) (offset-nth (counts at) k inside))
+
+  -- where there is room for one more, it is held
+  held-more : at .loop .written * length (counts at) + length (counts at) ≤ at .before .lesser .result → at .loop .written < held at
+  held-more h =
+      let next = suc-mul (at .loop .written) (length (counts at)) in
+      held-law-here at (suc (at .loop .written)) .1 (omega (arith, next, h, at .before .lesser .ensures), omega (arith, next, h, at .before .lesser .ensures))
+
+  -- and else all that are held are written
+  held-full : at .before .lesser .result < at .loop .written * length (counts at) + length (counts at) → held at ≤ at .loop .written
+  held-full h =
+      at-most (held at) (at .loop .written)
+      (λ more. let room = held-law-here at (suc (at .loop .written)) .0 more in omega (arith, suc-mul (at .loop .written) (length (counts at)), room, h, at .before .lesser .ensures))
+
+-- a profile that is found
+module _ (j : tie.Joined2 Inv-loop μ-loop) where
+  abbrev turn : tie.In-loop Inv-loop μ-loop
+  turn = j .before .before .before
+
+  -- it is one more, and it is written where it is held
+  one-more : let c = at turn in let l = c .loop in
+      (j .if2 .written ≡ min (l .number + 1) (held c))
+      × Choices c (j .if2 .choices) (l .number + 1) (l .k + 1)
+      × Utilities c (j .if2 .utilities) (l .number + 1) (l .k + 1)
+  one-more =
+      let c = at turn in
+      let l = c .loop in
+      let here : l .k < length (profiles (counts c)) = omega (arith, length-profiles (counts c), inside turn) in
+      let is : test (counts c) (found c) (getD (profiles (counts c)) (l .k) []) ≡ true = sym (tested turn) ∙ j .before .if1 .taken in
+      let r = nth-profile (counts c) (l .k) (inside turn) in
+      ⊎-elim
+      (λ v.
+      let more = held-more turn (v .0 .taken) in
+      let same : l .written ≡ l .number = omega (arith, l .inv .2, more) in
+      let less : l .number < held c = omega (arith, same, more) in (
+        v .11 ∙ omega (arith, same, less),
+        subst⁻¹ (λ (out : List ℕ). Choices c out (l .number + 1) (l .k + 1)) (v .9)
+            (listing-yes _ _ _ (length (counts c)) _ _ (l .choices) (l .number) (l .k) (l .inv .3) here is _ less (r .each) (rw same at (v .2 .ensures))),
+        subst⁻¹ (λ (out : List Float). Utilities c out (l .number + 1) (l .k + 1)) (v .10)
+            (listing-yes _ _ _ (length (counts c)) _ _ (l .utilities) (l .number) (l .k) (l .inv .4) here is _ less (part-length r (payoffs c) (start c .pre .0 .full)) (rw same at (v .6 .ensures))),
+      ))
+      (λ v.
+      let full : held c ≤ l .number = omega (arith, l .inv .2, held-full turn (v .0 .left)) in (
+        v .3 ∙ omega (arith, l .inv .2, full),
+        subst⁻¹ (λ (out : List ℕ). Choices c out (l .number + 1) (l .k + 1)) (v .1) (listing-full _ _ _ _ _ _ (l .choices) (l .number) (l .k) (l .inv .3) here is full),
+        subst⁻¹ (λ (out : List Float). Utilities c out (l .number + 1) (l .k + 1)) (v .2) (listing-full _ _ _ _ _ _ (l .utilities) (l .number) (l .k) (l .inv .4) here is full),
+      ))
+      (j .if2 .came)
+
+lesser-requires : tie.Need-lesser-requires Inv-loop μ-loop
+lesser-requires c κs = search needs
+
+loop-holds : tie.Need-loop-holds Inv-loop μ-loop
+loop-holds c = (omega arith, omega arith, omega arith, listing-none _ _ _ _ _ _, listing-none _ _ _ _ _ _)
+
+shared-slice-read-if1 : tie.Need-shared-slice-read-if1 Inv-loop μ-loop
+shared-slice-read-if1 c = omega arith
+
+mul-at : tie.Need-mul-at Inv-loop μ-loop
+mul-at c = omega (arith, few (c .before .before))
+
+add-if2 : tie.Need-add-if2 Inv-loop μ-loop
+add-if2 c = omega (arith, few (c .before .before))
+
+put-choices-requires : tie.Need-put-choices-requires Inv-loop μ-loop
+put-choices-requires c κs =
+    let i = c .before .before .before .before in
+    let s = start (at i) in
+    (s .pre .0 .shape, (inside i, omega (arith, c .before .if2 .taken, at i .before .lesser .ensures, lengths (at i))))
+
+put-utilities-requires : tie.Need-put-utilities-requires Inv-loop μ-loop
+put-utilities-requires c κs =
+    let t = c .before .before .before .before .before in
+    let i = t .before .before .before in
+    let s = start (at i) in
+    (s .pre .0, (inside i, omega (arith, t .if2 .taken, at i .before .lesser .ensures, lengths (at i))))
+
+add-written : tie.Need-add-written Inv-loop μ-loop
+add-written c = omega (arith, few (c .before .before .before .before .before .before .before .before .before .before .before), c .before .before .before .before .before .before .before .before .before .before .before .before .loop .inv)
+
+add-number : tie.Need-add-number Inv-loop μ-loop
+add-number c = omega (arith, few (turn c), at (turn c) .loop .inv .1)
+
+add-k : tie.Need-add-k Inv-loop μ-loop
+add-k c = omega (arith, few (c .before .before))
+
+loop-less : tie.Need-loop-less Inv-loop μ-loop
+loop-less c = omega arith
+
+loop-again : tie.Need-loop-again Inv-loop μ-loop
+loop-again c =
+    let i = c .before .before in
+    let l = at i .loop in
+    let here : l .k < length (profiles (counts (at i))) = omega (arith, length-profiles (counts (at i)), inside i) in
+    ⊎-elim
+    (λ w. let m = one-more (record { before = record { before = c .before; if1 = w .0 }; if2 = w .1 }) in rw (w .2, w .3, w .4, w .5) (omega arith, omega (arith, l .inv .1), m .0, m .1, m .2))
+    (λ w.
+    let no-it : test (counts (at i)) (found (at i)) (getD (profiles (counts (at i))) (l .k) []) ≡ false = sym (tested i) ∙ w .0 .left in
+    rw (w .1, w .2, w .3, w .4) (
+      omega arith,
+      omega (arith, l .inv .1),
+      l .inv .2,
+      listing-no _ _ _ _ _ _ (l .choices) (l .number) (l .k) (l .inv .3) here no-it,
+      listing-no _ _ _ _ _ _ (l .utilities) (l .number) (l .k) (l .inv .4) here no-it,
+    ))
+    (c .if1 .came)
+
+same-length : tie.Need-same-length Inv-loop μ-loop
+same-length c = lengths (c .before) .0
+
+same-length-2 : tie.Need-same-length-2 Inv-loop μ-loop
+same-length-2 c = lengths (c .before) .1
+
+returns : tie.Need-returns Inv-loop μ-loop
+unfolding foundProfiles
 returns c =
-    let s = c .before .before .before .before .before .before .before .args in
-    let n = many (c .before) in
-    let e = found-short (s .counts .now) (s .payoffs .now) (s .found .now) (length (s .choices .now)) (length (s .utilities .now)) OutputTooShort
-    (first-short _ (length (s .choices .now)) (length (s .utilities .now))
-    (subst (λ (m : ℕ). length (s .choices .now) < m * length (s .counts .now)) (n .0) (c .if1 .taken))) in
-    (e .0, (sym (ap (λ (xs : List ℕ). over xs (s .choices .now)) (e .1)), sym (ap (λ (xs : List Float). over xs (s .utilities .now)) (e .2))))
-
-mul-if2 : tie.Need-mul-if2
-mul-if2 c = search needs
-
-returns-2 : tie.Need-returns-2
-returns-2 c =
-    let s = c .before .before .before .before .before .before .before .before .args in
-    let n = many (c .before .before) in
-    let e = found-short (s .counts .now) (s .payoffs .now) (s .found .now) (length (s .choices .now)) (length (s .utilities .now)) OutputTooShort
-    (second-short _ (length (s .choices .now)) (length (s .utilities .now))
-    (subst (λ (m : ℕ). m * length (s .counts .now) ≤ length (s .choices .now)) (n .0) (c .before .if1 .left))
-    (subst (λ (m : ℕ). length (s .utilities .now) < m * length (s .counts .now)) (n .0) (c .if2 .taken))) in
-    (e .0, (sym (ap (λ (xs : List ℕ). over xs (s .choices .now)) (e .1)), sym (ap (λ (xs : List Float). over xs (s .utilities .now)) (e .2))))
-
-list-requires : tie.Need-list-requires
-list-requires c κs =
-    let s = c .before .before .before .before .before .before .before .before .before .before in
-    let call = c .before .before .before .before in
-    let e = call .count-found .ensures in (
-      s .pre .0,
+    let l = c .before .loop in
+    let s = start (c .before) in
+    let cs = counts (c .before) in
+    let es : List (List ℕ) = foundProfiles cs (found (c .before)) in
+    let n : ℕ = length cs in
+    let x : ℕ = a (c .before) in
+    let y : ℕ = b (c .before) in
+    let part = profilePart cs (payoffs (c .before)) in
+    let done : length (profiles cs) ≤ l .k = omega (arith, length-profiles cs, s .pre .1 .0, c .loop-test) in
+    let first = listing-end _ _ _ _ _ _ (l .choices) (l .number) (l .k) (l .inv .3) done in
+    let second = listing-end _ _ _ _ _ _ (l .utilities) (l .number) (l .k) (l .inv .4) done in
+    let told : record { total = l .number; written = l .written } ≡ listedOf es n x y = listed-is es n x y (l .number) (l .written) (first .0) (l .inv .2) in
+    let many : take (l .written) es ≡ take (held (c .before)) es = ap (λ (m : Listed). take (m .written) es) told ∙ take-written es n x y in (
+      told,
       (
-        s .pre .1,
-        (
-          subst (λ (m : ℕ). m * length (s .args .counts .now) ≤ length (s .args .choices .now)) e (c .before .before .before .if1 .left),
-          subst (λ (m : ℕ). m * length (s .args .counts .now) ≤ length (s .args .utilities .now)) e (c .before .before .if2 .left),
-        ),
+        first .1 ∙ sym (ap (λ (ps : List (List ℕ)). over (flatMap (λ x. x) ps) (s .args .choices .now)) many),
+        second .1 ∙ sym (ap (λ (xs : List Float). over xs (s .args .utilities .now)) (joined-map part (l .written) es ∙ ap (flatMap part) many)),
       ),
-    )
-
-same-length : tie.Need-same-length
-same-length c = search needs
-
-same-length-2 : tie.Need-same-length-2
-same-length-2 c = search needs
-
-returns-3 : tie.Need-returns-3
-returns-3 c =
-    let s = c .before .before .before .before .before .before .before .before .before .before .before .before .before .before .before .args in
-    let call = c .before .before .before .before .before .before .before .before .before in
-    let n = many call in
-    let e = found-fits (s .counts .now) (s .payoffs .now) (s .found .now) (length (s .choices .now)) (length (s .utilities .now))
-    (room-fits _ (length (s .choices .now)) (length (s .utilities .now))
-    (subst (λ (m : ℕ). m * length (s .counts .now) ≤ length (s .choices .now)) (n .0) (c .before .before .before .before .before .before .before .before .if1 .left))
-    (subst (λ (m : ℕ). m * length (s .counts .now) ≤ length (s .utilities .now)) (n .0) (c .before .before .before .before .before .before .before .if2 .left))) in
-    let wrote = c .before .before .before .before .list .ensures in (
-      ap (λ (k : ℕ). values k) (n .0) ∙ e .0,
-      (wrote .0 ∙ ap (λ (xs : List ℕ). over xs (s .choices .now)) (e .1), wrote .1 ∙ ap (λ (xs : List Float). over xs (s .utilities .now)) (e .2)),
     )
 
 pub list-found-spec : {M : Type 1} → statement M
 list-found-spec =
     tie.close
     (tie.spec
-    count-found-requires
-    mul-if1
-    returns
-    mul-if2
-    returns-2
-    list-requires
+    Inv-loop
+    μ-loop
+    lesser-requires
+    loop-holds
+    shared-slice-read-if1
+    mul-at
+    add-if2
+    put-choices-requires
+    put-utilities-requires
+    add-written
+    add-number
+    add-k
+    loop-less
+    loop-again
     same-length
     same-length-2
-    returns-3)
+    returns)

@@ -1,23 +1,17 @@
 -- `pure_nash::marked_equilibria` meets its contract: the arrays are long enough, and the listing of what is found is that of the equilibria.
 -- Assumes nothing.
 use native.Mathlib.Omega.{arith}
-use mathlib.Core.Path.{_≡_, ap, _∙_}
+use mathlib.Core.Path.{subst}
 use mathlib.Core.Bool.{false}
 use mathlib.Core.List.{List}
 use Prim.Native.Nat.{ℕ, _≤_}
-use lib.ListN.{length, length-replicate}
-use lib.Ieee.{Float}
+use lib.ListN.{length-replicate}
 use Rattle.game.specs.Finite.{product}
-use Rattle.game.specs.Game.{profiles}
-use Rattle.game.specs.Solution.{equilibria}
-use Rattle.written_lists.specs.Outputs.{over}
 use Rattle.payoff_tables.specs.Limits.{maxCells}
-use Rattle.payoff_tables.specs.Table.{tableGame}
 use Rattle.payoff_tables.proofs.Walk.{shape-room}
-use Rattle.marks.specs.Marks.{marked}
+use Rattle.equilibria.proofs.Listing.{Wrote}
 use Rattle.equilibrium_search.proofs.Known.{known-none}
-use Rattle.profile_listing.specs.Chosen.{chosen}
-use Rattle.pure_nash.proofs.Listing.{fewCells, few-profiles, found-all, found-answer, found-choices, found-utilities}
+use Rattle.pure_nash.proofs.Listing.{fewCells, few-profiles, found-are}
 use borrow.Author.Needs.{needs}
 use Rattle.pure_nash.proofs.marked_equilibria.Statement.{statement}
 use Rattle.pure_nash.proofs.marked_equilibria.Tie as tie
@@ -53,21 +47,12 @@ same-length-2 c = search needs
 
 returns : tie.Need-returns
 returns c =
-    let s = c .before .before .before .before .before .before .before .before .before .before .before .before .before .before .before .before .before .before .before in
-    let a = s .args in
-    let found = c .before .before .before .before .before .before .before .before .before .before .find .last .1 .1 .1 .1 .1 .0 in
-    let is : chosen found (profiles (a .counts .now)) ≡ equilibria (tableGame (a .counts .now) (a .payoffs .now)) (marked (a .marks .now)) =
-    found-all (a .counts .now) (a .payoffs .now) (a .marks .now) found (rw (c .before .before .before .before .before .before .before .before .found2 .given) (few (c .before .before .before .before .before .before .before .before .before .before .before .before .before))) (c .before .before .before .before .before .before .before .before .before .before .find .ensures .1) in
-    let listed = c .before .before .before .before .list-found .ensures in
-    let m = marked (a .marks .now) in
-    let x : ℕ = length (a .choices .now) in
-    let y : ℕ = length (a .utilities .now) in (
-      listed .0 ∙ found-answer (a .counts .now) (a .payoffs .now) found x y m is,
-      (
-        listed .1 .0 ∙ ap (λ (xs : List ℕ). over xs (a .choices .now)) (found-choices (a .counts .now) (a .payoffs .now) found x y m is),
-        listed .1 .1 ∙ ap (λ (xs : List Float). over xs (a .utilities .now)) (found-utilities (a .counts .now) (a .payoffs .now) found x y m is),
-      ),
-    )
+    let call = c .before .before .before .before in
+    let a = call .before .before .before .before .before .before .before .before .before .before .before .before .before .before .before .args in
+    let search = call .before .before .before .before .before .before in
+    let is = found-are (a .counts .now) (a .payoffs .now) (a .marks .now) (search .find .last .1 .1 .1 .1 .1 .0) (search .find .ensures .1) in
+    let out = call .list-found .last .1 .1 .1 .1 in
+    subst (λ (es : List (List ℕ)). Wrote (a .counts .now) (a .payoffs .now) es (a .choices .now) (out .0) (a .utilities .now) (out .1 .0) (call .list-found .result)) is (call .list-found .ensures)
 
 slice-aggregate-find-3 : tie.Need-slice-aggregate-find-3
 slice-aggregate-find-3 c = search needs
@@ -96,21 +81,12 @@ same-length-4 c = search needs
 
 returns-2 : tie.Need-returns-2
 returns-2 c =
-    let s = c .before .before .before .before .before .before .before .before .before .before .before .before .before .before .before .before .before .before .before in
-    let a = s .args in
-    let found = c .before .before .before .before .before .before .before .before .before .before .find2 .last .1 .1 .1 .1 .1 .0 in
-    let is : chosen found (profiles (a .counts .now)) ≡ equilibria (tableGame (a .counts .now) (a .payoffs .now)) (marked (a .marks .now)) =
-    found-all (a .counts .now) (a .payoffs .now) (a .marks .now) found (rw (c .before .before .before .before .before .before .before .before .found5 .given) (shape-room (s .pre .0 .shape))) (c .before .before .before .before .before .before .before .before .before .before .find2 .ensures .1) in
-    let listed = c .before .before .before .before .list-found2 .ensures in
-    let m = marked (a .marks .now) in
-    let x : ℕ = length (a .choices .now) in
-    let y : ℕ = length (a .utilities .now) in (
-      listed .0 ∙ found-answer (a .counts .now) (a .payoffs .now) found x y m is,
-      (
-        listed .1 .0 ∙ ap (λ (xs : List ℕ). over xs (a .choices .now)) (found-choices (a .counts .now) (a .payoffs .now) found x y m is),
-        listed .1 .1 ∙ ap (λ (xs : List Float). over xs (a .utilities .now)) (found-utilities (a .counts .now) (a .payoffs .now) found x y m is),
-      ),
-    )
+    let call = c .before .before .before .before in
+    let a = call .before .before .before .before .before .before .before .before .before .before .before .before .before .before .before .args in
+    let search = call .before .before .before .before .before .before in
+    let is = found-are (a .counts .now) (a .payoffs .now) (a .marks .now) (search .find2 .last .1 .1 .1 .1 .1 .0) (search .find2 .ensures .1) in
+    let out = call .list-found2 .last .1 .1 .1 .1 in
+    subst (λ (es : List (List ℕ)). Wrote (a .counts .now) (a .payoffs .now) es (a .choices .now) (out .0) (a .utilities .now) (out .1 .0) (call .list-found2 .result)) is (call .list-found2 .ensures)
 
 pub marked-equilibria-spec : {M : Type 1} → statement M
 marked-equilibria-spec =

@@ -1,24 +1,21 @@
 -- `survivor_calls::surviving_equilibria` meets its contract: the listing among the survivors' marks, where neither the table nor the survivors
 -- are refused. Assumes nothing.
-use mathlib.Core.Path.{_≡_, refl, sym, ap, _∙_}
-use mathlib.Core.List.{List, flatMap}
+use mathlib.Core.Path.{_≡_, sym, ap, _∙_}
+use mathlib.Core.List.{List}
 use mathlib.Core.Option.{none, some}
 use Prim.Native.Nat.{ℕ}
 use borrow.Author.Needs.{needs}
-use lib.ListN.{length}
 use lib.Ieee.{Float}
-use Rattle.refusal.specs.Refusal.{Refusal, numberOf}
+use Rattle.refusal.specs.Refusal.{numberOf}
 use Rattle.refusal.specs.Told.{refused, toldUsize}
 use Rattle.refusal.specs.declared.NormalFormError.{NormalFormError}
 use Rattle.refusal.specs.declared.NormalFormError.the-variants.{ForeignSurvivors}
 use Rattle.refusal.proofs.Told.{told-refused}
-use Rattle.written_lists.specs.Outputs.{over}
 use Rattle.payoff_tables.specs.Checks.{tableRefusal}
 use Rattle.payoff_tables.proofs.Table.{TableTold, table-told}
-use Rattle.equilibria.specs.Answers.{listingAnswer, listedChoices, listedUtilities}
+use Rattle.equilibria.proofs.Listing.{Lists, listing-told, listing-refused}
 use Rattle.survivors.specs.declared.Survivors.{Survivors}
-use Rattle.survivors.specs.Survivors.{marksOf}
-use Rattle.strikes.specs.Answers.{survivorsRefusal, survivingAnswer, survivingChoices, survivingUtilities}
+use Rattle.strikes.specs.Answers.{survivorsRefusal, survivingEquilibria}
 use Rattle.strikes.proofs.Cases.{table-first, then-foreign, not-foreign}
 use Rattle.survivor_calls.proofs.surviving_equilibria.Statement.{statement}
 use Rattle.survivor_calls.proofs.surviving_equilibria.Tie as tie
@@ -39,12 +36,9 @@ module _ (s : tie.Start) where
   abbrev paid : List Float
   paid = s .args .utilities .now
 
-  -- where something refuses before 13, it is told and nothing is written
-  kept : (e : NormalFormError) → survivorsRefusal cs ps v ≡ some e
-      → (refused (numberOf e) ≡ survivingAnswer cs ps v (length out) (length paid))
-      × ((out ≡ over (survivingChoices cs ps v (length out) (length paid)) out) × (paid ≡ over (survivingUtilities cs ps v (length out) (length paid)) paid))
-  unfolding listingAnswer listedChoices listedUtilities flatMap
-  kept e h = rw h (refl, (refl, refl))
+  -- what refuses is told, and nothing is written
+  kept : (e : NormalFormError) → survivorsRefusal cs ps v ≡ some e → Lists cs ps (survivingEquilibria cs ps v) out out paid paid (survivorsRefusal cs ps v) (refused (numberOf e))
+  kept = listing-refused cs ps (survivingEquilibria cs ps v) out paid (survivorsRefusal cs ps v)
 
 -- the arm where the table has no refusal
 module _ (c : tie.After-total) where
@@ -99,16 +93,8 @@ returns-3 c =
     let a = b .before .before .before in
     let k = start a in
     let own : survivorsRefusal (cs k) (ps k) (v k) ≡ none = not-foreign (cs k) (ps k) (v k) (checked a .none-applies) (sym (b .before .is-foreign .ensures) ∙ b .if1 .left) in
-    let listed = d .marked-equilibria .ensures in
-    let x : ℕ = length (out k) in
-    let y : ℕ = length (paid k) in
-    let m = marksOf (v k) in (
-      listed .0 ∙ sym (ap (λ (r : Refusal). listingAnswer (cs k) (ps k) r m x y) own),
-      (
-        listed .1 .0 ∙ sym (ap (λ (r : Refusal). over (listedChoices (cs k) (ps k) r m x y) (out k)) own),
-        listed .1 .1 ∙ sym (ap (λ (r : Refusal). over (listedUtilities (cs k) (ps k) r m x y) (paid k)) own),
-      ),
-    )
+    let made = d .marked-equilibria .last .1 .1 .1 .1 in
+    listing-told (cs k) (ps k) (survivingEquilibria (cs k) (ps k) (v k)) (out k) (made .0) (paid k) (made .1 .0) (survivorsRefusal (cs k) (ps k) (v k)) own (d .marked-equilibria .result) (d .marked-equilibria .ensures)
 
 pub surviving-equilibria-spec : {M : Type 1} → statement M
 surviving-equilibria-spec =
