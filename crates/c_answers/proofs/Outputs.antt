@@ -33,11 +33,11 @@ pub truth-into : (t u : Told Bool) (n : ℕ) (new old : ℕ) → t ≡ u
     → (n ≡ status t) × (new ≡ output (toldOf byteOf t) old) → (n ≡ status u) × (new ≡ output (toldOf byteOf u) old)
 truth-into t u n new old e h = rw e at h
 
--- the same of a number or none, told into two outputs
-pub number-into : (t u : Told (Option ℕ)) (n : ℕ) (l l₀ : ℕ) (k k₀ : ℕ) → t ≡ u
-    → (n ≡ status t) × ((l ≡ output (toldOf someByte t) l₀) × (k ≡ output (toldOf orZero t) k₀))
-    → (n ≡ status u) × ((l ≡ output (toldOf someByte u) l₀) × (k ≡ output (toldOf orZero u) k₀))
-number-into t u n l l₀ k k₀ e h = rw e at h
+-- the same of two numbers that f and g make of what is told, each told into an output
+pub both-into : {A : Type 0} (f g : A → ℕ) (t u : Told A) (n : ℕ) (l l₀ : ℕ) (k k₀ : ℕ) → t ≡ u
+    → (n ≡ status t) × ((l ≡ output (toldOf f t) l₀) × (k ≡ output (toldOf g t) k₀))
+    → (n ≡ status u) × ((l ≡ output (toldOf f u) l₀) × (k ≡ output (toldOf g u) k₀))
+both-into f g t u n l l₀ k k₀ e h = rw e at h
 
 -- the two outputs tell which number it is, or that there is none
 pub number-back : (o p : Option ℕ) → someByte o ≡ someByte p → orZero o ≡ orZero p → o ≡ p

@@ -1,6 +1,7 @@
 // What goes between a call and C: an answer into its outputs, which a refused answer leaves as they were, and survivors as C holds them.
 use catalogue::NumberResult;
 use refusal::BoolResult;
+use refusal::ListingResult;
 use refusal::UnitResult;
 use refusal::UsizeOption;
 use refusal::UsizeResult;
@@ -13,7 +14,7 @@ ghost use mathlib.Core.Path.{_≡_};
 ghost use mathlib.Core.Bool.{not};
 ghost use mathlib.Core.List.{map};
 ghost use lib.Dec.{eqb};
-ghost use Rattle.refusal.specs.Told.{toldOf, toldUnit, toldUsize, toldBool, status};
+ghost use Rattle.refusal.specs.Told.{toldOf, toldUnit, toldUsize, toldBool, toldListing, status};
 ghost use Rattle.utility.specs.Value.{toldUtility};
 ghost use Rattle.catalogue.specs.Answers.{toldNumber};
 ghost use Rattle.c_answers.specs.Status.{output, beside, someByte, orZero, survivorsOf, byteOf, markBytes};
@@ -31,6 +32,22 @@ pub fn usize_into(answer: UsizeResult, number: &mut usize) -> u32
             0
         }
         UsizeResult::Err(e) => e.number(),
+    }
+}
+
+// Both numbers of a listing into `total` and `written`.
+pub fn listing_into(answer: ListingResult, total: &mut usize, written: &mut usize) -> u32
+    ensures { λ r. ⌜ r ≡ status (toldListing answer) ⌝ }
+    ensures { λ r. ⌜ now (total .exit) ≡ output (toldOf (λ l. l .total) (toldListing answer)) (now (total .entry)) ⌝ }
+    ensures { λ r. ⌜ now (written .exit) ≡ output (toldOf (λ l. l .written) (toldListing answer)) (now (written .entry)) ⌝ }
+{
+    match answer {
+        ListingResult::Ok(listed) => {
+            *total = listed.total;
+            *written = listed.written;
+            0
+        }
+        ListingResult::Err(e) => e.number(),
     }
 }
 

@@ -25,7 +25,7 @@ ghost use Rattle.payoff_tables.specs.Answers.{offsetAnswer, payoffAnswer};
 ghost use Rattle.table.specs.Space.{spaceOf};
 ghost use Rattle.profile_step.specs.Step.{step};
 ghost use Rattle.responses.specs.Answers.{responseUtilities, responsesAnswer, responsesWritten};
-ghost use Rattle.equilibria.specs.Answers.{isEquilibriumAnswer, countAnswer, equilibriaAnswer, equilibriaChoices, equilibriaUtilities};
+ghost use Rattle.equilibria.specs.Answers.{isEquilibriumAnswer, equilibriaAnswer, equilibriaChoices, equilibriaUtilities};
 ghost use Rattle.dominance.specs.Answers.{strategiesOf, dominatorsOf, dominatedAnswer, dominatedWritten};
 ghost use Rattle.survivors.specs.Survivors.{freshOf};
 ghost use Rattle.strikes.specs.Answers.{strikeAnswer, strikeLeaves, survivingAnswer, survivingChoices, survivingUtilities};
@@ -39,7 +39,7 @@ ghost use Rattle.exports.specs.Interface.{interface};
 
 // The number of this interface, SIGVANYOR_INTERFACE of the header. It goes up with each change of a
 // C signature or of a limit.
-pub const INTERFACE: u32 = 1;
+pub const INTERFACE: u32 = 2;
 
 // The number of the interface that the archive was built with.
 #[no_mangle]
@@ -227,35 +227,25 @@ pub extern "C" fn sigvanyor_is_equilibrium(
     )
 }
 
-// `count_equilibria`: how many equilibria there are into `number`, or 1 to 7.
-#[no_mangle]
-pub extern "C" fn sigvanyor_count_equilibria(
-    counts: &[usize],
-    payoffs: &[f64],
-    number: &mut usize,
-) -> u32
-    ensures { λ r. ⌜ r ≡ status (countAnswer (now (counts .entry)) (now (payoffs .entry))) ⌝ }
-    ensures { λ r. ⌜ now (number .exit) ≡ output (countAnswer (now (counts .entry)) (now (payoffs .entry))) (now (number .entry)) ⌝ }
-{
-    c_outputs::usize_into(pure_nash::count_equilibria(counts, payoffs), number)
-}
-
-// `equilibria`: the choices of each into `choices`, the payoffs into `utilities`, and how many there are into `number`, or 1 to 7, 13.
+// `equilibria`: the choices of the first that both outputs hold whole into `choices`, their payoffs into `utilities`, how many there are into
+// `total`, and how many are written into `written`, or 1 to 7.
 #[no_mangle]
 pub extern "C" fn sigvanyor_equilibria(
     counts: &[usize],
     payoffs: &[f64],
     choices: &mut [usize],
     utilities: &mut [f64],
-    number: &mut usize,
+    total: &mut usize,
+    written: &mut usize,
 ) -> u32
     ensures { λ r. ⌜ r ≡ status (equilibriaAnswer (now (counts .entry)) (now (payoffs .entry)) (length (now (choices .entry))) (length (now (utilities .entry)))) ⌝ }
-    ensures { λ r. ⌜ now (number .exit) ≡ output (equilibriaAnswer (now (counts .entry)) (now (payoffs .entry)) (length (now (choices .entry))) (length (now (utilities .entry)))) (now (number .entry)) ⌝ }
+    ensures { λ r. ⌜ now (total .exit) ≡ output (toldOf (λ l. l .total) (equilibriaAnswer (now (counts .entry)) (now (payoffs .entry)) (length (now (choices .entry))) (length (now (utilities .entry))))) (now (total .entry)) ⌝ }
+    ensures { λ r. ⌜ now (written .exit) ≡ output (toldOf (λ l. l .written) (equilibriaAnswer (now (counts .entry)) (now (payoffs .entry)) (length (now (choices .entry))) (length (now (utilities .entry))))) (now (written .entry)) ⌝ }
     ensures { λ r. ⌜ now (choices .exit) ≡ over (equilibriaChoices (now (counts .entry)) (now (payoffs .entry)) (length (now (choices .entry))) (length (now (utilities .entry)))) (now (choices .entry)) ⌝ }
     ensures { λ r. ⌜ now (utilities .exit) ≡ over (equilibriaUtilities (now (counts .entry)) (now (payoffs .entry)) (length (now (choices .entry))) (length (now (utilities .entry)))) (now (utilities .entry)) ⌝ }
 {
     let answer = pure_nash::equilibria(counts, payoffs, choices, utilities);
-    c_outputs::usize_into(answer, number)
+    c_outputs::listing_into(answer, total, written)
 }
 
 // `strictly_dominated_strategies`: the dominated strategies into `dominated`, the lowest dominator of each into `dominators`, and how many
@@ -343,8 +333,7 @@ pub extern "C" fn sigvanyor_strike(
     }
 }
 
-// `surviving_equilibria`: the choices of each into `choices`, the payoffs into `utilities`, and how many there are into `number`, or 1 to 7,
-// 16, 13.
+// `surviving_equilibria`: as `equilibria`, over survivors, or 1 to 7, 16.
 #[no_mangle]
 pub extern "C" fn sigvanyor_surviving_equilibria(
     counts: &[usize],
@@ -354,16 +343,18 @@ pub extern "C" fn sigvanyor_surviving_equilibria(
     survivors_marks: &[u8; MAX_MARKS],
     choices: &mut [usize],
     utilities: &mut [f64],
-    number: &mut usize,
+    total: &mut usize,
+    written: &mut usize,
 ) -> u32
     ensures { λ r. ⌜ r ≡ status (survivingAnswer (now (counts .entry)) (now (payoffs .entry)) (survivorsOf «survivors_players» (now («survivors_counts» .entry)) (now («survivors_marks» .entry))) (length (now (choices .entry))) (length (now (utilities .entry)))) ⌝ }
-    ensures { λ r. ⌜ now (number .exit) ≡ output (survivingAnswer (now (counts .entry)) (now (payoffs .entry)) (survivorsOf «survivors_players» (now («survivors_counts» .entry)) (now («survivors_marks» .entry))) (length (now (choices .entry))) (length (now (utilities .entry)))) (now (number .entry)) ⌝ }
+    ensures { λ r. ⌜ now (total .exit) ≡ output (toldOf (λ l. l .total) (survivingAnswer (now (counts .entry)) (now (payoffs .entry)) (survivorsOf «survivors_players» (now («survivors_counts» .entry)) (now («survivors_marks» .entry))) (length (now (choices .entry))) (length (now (utilities .entry))))) (now (total .entry)) ⌝ }
+    ensures { λ r. ⌜ now (written .exit) ≡ output (toldOf (λ l. l .written) (survivingAnswer (now (counts .entry)) (now (payoffs .entry)) (survivorsOf «survivors_players» (now («survivors_counts» .entry)) (now («survivors_marks» .entry))) (length (now (choices .entry))) (length (now (utilities .entry))))) (now (written .entry)) ⌝ }
     ensures { λ r. ⌜ now (choices .exit) ≡ over (survivingChoices (now (counts .entry)) (now (payoffs .entry)) (survivorsOf «survivors_players» (now («survivors_counts» .entry)) (now («survivors_marks» .entry))) (length (now (choices .entry))) (length (now (utilities .entry)))) (now (choices .entry)) ⌝ }
     ensures { λ r. ⌜ now (utilities .exit) ≡ over (survivingUtilities (now (counts .entry)) (now (payoffs .entry)) (survivorsOf «survivors_players» (now («survivors_counts» .entry)) (now («survivors_marks» .entry))) (length (now (choices .entry))) (length (now (utilities .entry)))) (now (utilities .entry)) ⌝ }
 {
     let left = c_outputs::survivors_of(survivors_players, survivors_counts, survivors_marks);
     let answer = survivor_calls::surviving_equilibria(counts, payoffs, left, choices, utilities);
-    c_outputs::usize_into(answer, number)
+    c_outputs::listing_into(answer, total, written)
 }
 
 // `strikes`: the answer to each strike into `answers`, its dominator into `dominators`, how many were accepted into `number`, and P, the counts

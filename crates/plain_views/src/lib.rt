@@ -1,6 +1,7 @@
 // The view's calls for callers that hold no view: each makes one of its fields and calls it. No contract here names a view or a lent list of
 // records, so that callers need no walk by hand.
 use refusal::BoolResult;
+use refusal::ListingResult;
 use refusal::UsizeResult;
 use response_list::BestResponse;
 use response_list::ResponseList;
@@ -15,7 +16,7 @@ use view::PayoffMatrix;
 ghost use mathlib.Core.Path.{_≡_};
 ghost use lib.ListN.{length};
 ghost use Rattle.game.specs.Game.{strategy as named};
-ghost use Rattle.refusal.specs.Told.{toldBool, toldUnit, toldUsize, unless, unlessRefused};
+ghost use Rattle.refusal.specs.Told.{toldBool, toldListing, toldUnit, toldUsize, unless, unlessRefused};
 ghost use Rattle.written_lists.specs.Outputs.{over};
 ghost use Rattle.payoff_tables.specs.Limits.{maxStrategies};
 ghost use Rattle.payoff_tables.specs.Checks.{tableRefusal};
@@ -92,8 +93,8 @@ pub fn matrix_equilibria(
     counts: [usize; MAX_PLAYERS],
     choices: &mut [usize],
     utilities: &mut [f64],
-) -> UsizeResult
-    ensures { λ r. ⌜ (toldUsize r ≡ equilibriaAnswer (firstCounts players counts) (now (payoffs .entry)) (length (now (choices .entry))) (length (now (utilities .entry))))
+) -> ListingResult
+    ensures { λ r. ⌜ (toldListing r ≡ equilibriaAnswer (firstCounts players counts) (now (payoffs .entry)) (length (now (choices .entry))) (length (now (utilities .entry))))
         × (now (choices .exit) ≡ over (equilibriaChoices (firstCounts players counts) (now (payoffs .entry)) (length (now (choices .entry))) (length (now (utilities .entry)))) (now (choices .entry)))
         × (now (utilities .exit) ≡ over (equilibriaUtilities (firstCounts players counts) (now (payoffs .entry)) (length (now (choices .entry))) (length (now (utilities .entry)))) (now (utilities .entry))) ⌝ }
 {

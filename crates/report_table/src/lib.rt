@@ -1,7 +1,7 @@
 // The report on a table, put into a lent buffer byte for byte as specs/Report defines it.
 use catalogue::NumberResult;
+use refusal::ListingResult;
 use refusal::UsizeOption;
-use refusal::UsizeResult;
 use report_input::MAX_REPORT_CELLS;
 use table::MAX_MARKS;
 ghost use mathlib.Core.Path.{_≡_};
@@ -33,7 +33,8 @@ pub fn put_number_line(out: &mut [u8], at: usize, name: &[u8], n: usize) -> usiz
     text::put_labelled(out, at, name, &numbers)
 }
 
-// Puts the list of equilibria after its length. The output for choices and that for payoffs have room for every profile's.
+// Puts the list of equilibria after its length: the total that one listing tells, and what it writes. Both of its outputs hold every profile's
+// choices and payoffs.
 fn put_equilibria(out: &mut [u8], at: usize, counts: &[usize], payoffs: &[f64]) -> usize
     requires { ⌜ Table (now counts) (now payoffs) ⌝ }
     requires { ⌜ length (now payoffs) ≤ maxReportCells ⌝ }
@@ -43,10 +44,17 @@ fn put_equilibria(out: &mut [u8], at: usize, counts: &[usize], payoffs: &[f64]) 
     let mut choices = [0usize; MAX_REPORT_CELLS];
     let mut utilities = [0.0f64; MAX_REPORT_CELLS];
     match pure_nash::equilibria(counts, payoffs, &mut choices, &mut utilities) {
-        UsizeResult::Err(_) => at,
-        UsizeResult::Ok(number) => {
-            let place = put_number_line(out, at, b"equilibria", number);
-            report_lines::put_entries(out, place, &choices, &utilities, counts.len(), number)
+        ListingResult::Err(_) => at,
+        ListingResult::Ok(listed) => {
+            let place = put_number_line(out, at, b"equilibria", listed.total);
+            report_lines::put_entries(
+                out,
+                place,
+                &choices,
+                &utilities,
+                counts.len(),
+                listed.written,
+            )
         }
     }
 }

@@ -1,6 +1,7 @@
 // A view of a table, which holds the payoffs by reference. No function that has one is covered by the prover's own walk, so each is thin: it
 // takes the view apart, and leaves the rest to a function with plain parameters (`view_fields`).
 use refusal::BoolResult;
+use refusal::ListingResult;
 use refusal::UnitResult;
 use refusal::UsizeResult;
 use response_list::BestResponse;
@@ -11,7 +12,7 @@ use table::MAX_PLAYERS;
 ghost use mathlib.Core.Path.{_≡_};
 ghost use lib.ListN.{length};
 ghost use Rattle.game.specs.Game.{strategy as named};
-ghost use Rattle.refusal.specs.Told.{toldBool, toldUnit, toldUsize, unless, unlessRefused};
+ghost use Rattle.refusal.specs.Told.{toldBool, toldListing, toldUnit, toldUsize, unless, unlessRefused};
 ghost use Rattle.written_lists.specs.Outputs.{over};
 ghost use Rattle.payoff_tables.specs.Checks.{tableRefusal};
 ghost use Rattle.table.specs.Space.{spaceUnless};
@@ -86,8 +87,8 @@ impl<'a> PayoffMatrix<'a> {
     }
 
     // Its equilibria, as `pure_nash::equilibria` lists them.
-    pub fn equilibria(self, choices: &mut [usize], utilities: &mut [f64]) -> UsizeResult
-        ensures { λ r. ⌜ (toldUsize r ≡ equilibriaAnswer (countsOf (self .entry)) (now (self .entry .payoffs)) (length (now (choices .entry))) (length (now (utilities .entry))))
+    pub fn equilibria(self, choices: &mut [usize], utilities: &mut [f64]) -> ListingResult
+        ensures { λ r. ⌜ (toldListing r ≡ equilibriaAnswer (countsOf (self .entry)) (now (self .entry .payoffs)) (length (now (choices .entry))) (length (now (utilities .entry))))
             × (now (choices .exit) ≡ over (equilibriaChoices (countsOf (self .entry)) (now (self .entry .payoffs)) (length (now (choices .entry))) (length (now (utilities .entry)))) (now (choices .entry)))
             × (now (utilities .exit) ≡ over (equilibriaUtilities (countsOf (self .entry)) (now (self .entry .payoffs)) (length (now (choices .entry))) (length (now (utilities .entry)))) (now (utilities .entry))) ⌝ }
     {

@@ -1,6 +1,7 @@
 // The calls on a view's fields, the payoffs, P and eight counts, whatever they are: each is the plain call on the payoffs and the first P counts.
 // P over 8 gives 2 before any count is read.
 use refusal::BoolResult;
+use refusal::ListingResult;
 use refusal::NormalFormError;
 use refusal::UnitResult;
 use refusal::UsizeResult;
@@ -13,7 +14,7 @@ use table::StrategySpace;
 ghost use mathlib.Core.Path.{_≡_};
 ghost use lib.ListN.{length};
 ghost use Rattle.game.specs.Game.{strategy as named};
-ghost use Rattle.refusal.specs.Told.{toldBool, toldUnit, toldUsize, unless, unlessRefused};
+ghost use Rattle.refusal.specs.Told.{toldBool, toldListing, toldUnit, toldUsize, unless, unlessRefused};
 ghost use Rattle.written_lists.specs.Outputs.{over, written};
 ghost use Rattle.payoff_tables.specs.Checks.{tableRefusal};
 ghost use Rattle.equilibria.specs.Answers.{isEquilibriumAnswer, equilibriaAnswer, equilibriaChoices, equilibriaUtilities};
@@ -68,13 +69,13 @@ pub fn equilibria_of(
     counts: [usize; MAX_PLAYERS],
     choices: &mut [usize],
     utilities: &mut [f64],
-) -> UsizeResult
-    ensures { λ r. ⌜ toldUsize r ≡ equilibriaAnswer (firstCounts players counts) (now (payoffs .entry)) (length (now (choices .entry))) (length (now (utilities .entry))) ⌝ }
+) -> ListingResult
+    ensures { λ r. ⌜ toldListing r ≡ equilibriaAnswer (firstCounts players counts) (now (payoffs .entry)) (length (now (choices .entry))) (length (now (utilities .entry))) ⌝ }
     ensures { λ r. ⌜ now (choices .exit) ≡ over (equilibriaChoices (firstCounts players counts) (now (payoffs .entry)) (length (now (choices .entry))) (length (now (utilities .entry)))) (now (choices .entry)) ⌝ }
     ensures { λ r. ⌜ now (utilities .exit) ≡ over (equilibriaUtilities (firstCounts players counts) (now (payoffs .entry)) (length (now (choices .entry))) (length (now (utilities .entry)))) (now (utilities .entry)) ⌝ }
 {
     if MAX_PLAYERS < players {
-        return UsizeResult::Err(NormalFormError::TooManyPlayers);
+        return ListingResult::Err(NormalFormError::TooManyPlayers);
     }
     pure_nash::equilibria(&counts[..players], payoffs, choices, utilities)
 }

@@ -4,7 +4,8 @@ use borrow.Author.Needs.{needs}
 use Rattle.refusal.specs.Told.{values, optionUsize}
 use Rattle.refusal.specs.declared.UsizeOption.{UsizeOption}
 use Rattle.catalogue.specs.Answers.{toldNumber}
-use Rattle.c_answers.proofs.Outputs.{number-into}
+use Rattle.c_answers.specs.Status.{someByte, orZero}
+use Rattle.c_answers.proofs.Outputs.{both-into}
 use Rattle.c_outputs.proofs.number_into.Statement.{statement}
 use Rattle.c_outputs.proofs.number_into.Tie as tie
 
@@ -27,16 +28,16 @@ returns : tie.Need-returns
 returns c =
     let k = c .before .before .before .before in
     let e = ap toldNumber (k .answer .given .1) ∙ ap (λ (o : UsizeOption). values (optionUsize o)) (c .before .told .given .1) in
-    number-into _ _ _ _ _ _ _ (sym e) (refl, (refl, refl))
+    both-into someByte orZero _ _ _ _ _ _ _ (sym e) (refl, (refl, refl))
 
 returns-2 : tie.Need-returns-2
 returns-2 c =
     let k = c .before .before .before in
     let e = ap toldNumber (k .answer .given .1) ∙ ap (λ (o : UsizeOption). values (optionUsize o)) (c .enum-told .given .1) in
-    number-into _ _ _ _ _ _ _ (sym e) (refl, (refl, refl))
+    both-into someByte orZero _ _ _ _ _ _ _ (sym e) (refl, (refl, refl))
 
 returns-3 : tie.Need-returns-3
-returns-3 c = number-into _ _ _ _ _ _ _ (sym (ap toldNumber (c .before .before .answer2 .given .1))) (c .number .ensures, (refl, refl))
+returns-3 c = both-into someByte orZero _ _ _ _ _ _ _ (sym (ap toldNumber (c .before .before .answer2 .given .1))) (c .number .ensures, (refl, refl))
 
 pub number-into-spec : {M : Type 1} → statement M
 number-into-spec =

@@ -44,11 +44,11 @@ use denote.Exit.{yes}
 use denote.Triple.Clauses.{Lasts, ensured, lasts}
 use Rattle.written_lists.specs.Outputs.{over}
 use Rattle.payoff_tables.specs.Limits.{maxPlayers}
-use Rattle.refusal.specs.Told.{toldUsize}
+use Rattle.refusal.specs.Told.{toldListing}
 use Rattle.equilibria.specs.Answers.{equilibriaAnswer, equilibriaChoices, equilibriaUtilities}
-use Rattle.refusal.specs.declared.UsizeResult.{UsizeResult}
-use Rattle.refusal.proofs.UsizeResult as R
-use Rattle.refusal.proofs.UsizeResult.Laws as R′
+use Rattle.refusal.specs.declared.ListingResult.{ListingResult}
+use Rattle.refusal.proofs.ListingResult as R
+use Rattle.refusal.proofs.ListingResult.Laws as R′
 use Rattle.view_fields.specs.Counts.{firstCounts}
 use Rattle.view.proofs.Counts.{field-list, counts-laws, counts-val, counts-vals, counts-in, counts-tells}
 use Rattle.response_list.proofs.Steps.{slice-val}
@@ -84,9 +84,9 @@ module _ {M : Type 1} (𝓤 : URA M) (H : Heap 𝓤) (A : Atoms 𝓤) (W : Given
   Post = walkOf 𝓤 H A f.ended stayed (f.clauses 𝓤 H A mem run) .post ((κs, qs, tt, a, vals), tt)
 
   -- what is said of the answer and of the last lists, by the method and by the function alike
-  abbrev Said : UsizeResult → List ℕ → List Float → Type 0
+  abbrev Said : ListingResult → List ℕ → List Float → Type 0
   Said r ys us =
-      (toldUsize r ≡ equilibriaAnswer (firstCounts n cs) (now s) (length (now choices)) (length (now utilities)))
+      (toldListing r ≡ equilibriaAnswer (firstCounts n cs) (now s) (length (now choices)) (length (now utilities)))
       × (ys ≡ over (equilibriaChoices (firstCounts n cs) (now s) (length (now choices)) (length (now utilities))) (now choices))
       × (us ≡ over (equilibriaUtilities (firstCounts n cs) (now s) (length (now choices)) (length (now utilities))) (now utilities))
 
@@ -97,7 +97,7 @@ module _ {M : Type 1} (𝓤 : URA M) (H : Heap 𝓤) (A : Atoms 𝓤) (W : Given
   abbrev to : Method 𝓤 H A mem run .Ghost
   to = ((κs, qs, tt, args, (made-val s n cs (κs .0) ∷ [], (slice-val choices ∷ [], (slice-val utilities ∷ [], tt)))), tt)
 
-  exits : (r : UsizeResult) (w : Val) (ys : List ℕ) (us : List Float) → Said r ys us → length ys ≡ length (now choices) → length us ≡ length (now utilities)
+  exits : (r : ListingResult) (w : Val) (ys : List ℕ) (us : List Float) → Said r ys us → length ys ≡ length (now choices) → length us ≡ length (now utilities)
       → ent 𝓤 (⋆ 𝓤 H A (‵ (R.the-row .own r (w ∷ [])) ∷ raw Live ∷ ‵ (finally usize (choices .name) ys) ∷ ‵ (finally f64 (utilities .name) us) ∷ [])) (Post w)
   exits r w ys us e same-ys same-us =
       qed W (‵ (R.the-row .own r (w ∷ [])) ∷ raw Live ∷ ‵ (finally usize (choices .name) ys) ∷ ‵ (finally f64 (utilities .name) us) ∷ []) ∵
@@ -121,7 +121,7 @@ module _ {M : Type 1} (𝓤 : URA M) (H : Heap 𝓤) (A : Atoms 𝓤) (W : Given
         assigns ! (agg ! (and-then ! (load ! (from ! (stop !)) (look ! 2 refl)) (and-then ! (load ! (from ! (fld ! refl (stop !))) (look-in ! 12 (sub ! 1 refl (whole !)))) (no-more !)))) (from ! (stop !)) (init ! 0 refl (tt, (tt, (record { fits = utilities-room .0 }, tt)))) $
         move ! (24 ∷ []) $ use1 W (raw (Method 𝓤 H A mem run .pre to)) (enters s n cs 𝓤 H A W (κs .0) p fits is Live (owns (MutSlice (named 1) (κs .1 .0) usize ∷ MutSlice (named 2) (κs .1 .1 .0) f64 ∷ []) (choices, (utilities, tt)) (slice-val choices ∷ [], (slice-val utilities ∷ [], tt)))) $
         calls-at ! fm (Method 𝓤 H A mem run) known to (and-then ! (load ! (from ! (stop !)) (look ! 9 refl)) (and-then ! (load ! (from ! (stop !)) (look ! 5 refl)) (and-then ! (load ! (from ! (stop !)) (look ! 1 refl)) (no-more !)))) (λ w.
-        use1 W (later (some (λ (r : UsizeResult). (raw Live ⊛ ‵ (R.the-row .own r (w ∷ []))) ⊛ raw (ensured 𝓤 H A method.ended (method.clauses 𝓤 H A mem run) κs args tt r)))) (id⊢ 𝓤 _) $ await ! tt $ pick ! (λ r.
+        use1 W (later (some (λ (r : ListingResult). (raw Live ⊛ ‵ (R.the-row .own r (w ∷ []))) ⊛ raw (ensured 𝓤 H A method.ended (method.clauses 𝓤 H A mem run) κs args tt r)))) (id⊢ 𝓤 _) $ await ! tt $ pick ! (λ r.
         split ! $ move ! (1 ∷ []) $ use1 W (some (λ (zs : Lasts method.ended κs args). ‵ (lasts method.ended κs args zs) ⊛ raw (fact 𝓤 (Said r (zs .1 .0) (zs .1 .1 .0))))) (id⊢ 𝓤 _) $ pick ! (λ zs.
         split ! $ move ! (1 ∷ []) $ heard ! (Said r (zs .1 .0) (zs .1 .1 .0)) (λ e.
         fsplit ! $ drop ! $ fsplit ! $ fsplit ! $ move ! (1 ∷ []) $ feqL ! (λ same-ys. move ! (1 ∷ []) $ fsplit ! $ fsplit ! $ move ! (1 ∷ []) $ feqL ! (λ same-us.

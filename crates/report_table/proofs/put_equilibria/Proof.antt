@@ -1,4 +1,4 @@
--- `report_table::put_equilibria` meets its contract: the outputs have room for every profile, so that the listing is not refused. Assumes nothing.
+-- `report_table::put_equilibria` meets its contract: the outputs hold every profile, so that the listing writes all. Assumes nothing.
 use mathlib.Core.Path.{_≡_, sym, ap, ap₂, _∙_, subst}
 use mathlib.Core.List.{List, [], _∷_, _++_, flatMap}
 use Prim.Native.Nat.{ℕ, _*_, _≤_, _<_}
@@ -7,17 +7,17 @@ use borrow.Author.Needs.{needs}
 use lib.Dec.{T}
 use lib.ListN.{length, getD, replicate, length-append}
 use lib.Ieee.{Float, nan, binary64, ofBits}
-use Rattle.game.specs.Game.{whole}
-use Rattle.refusal.specs.Refusal.{Refusal, numberOf, _then_}
-use Rattle.refusal.specs.Told.{values, toldUsize, unless}
+use Rattle.refusal.specs.Refusal.{numberOf}
+use Rattle.refusal.specs.Told.{values, toldListing}
+use Rattle.refusal.specs.declared.Listed.{Listed}
 use Rattle.refusal.proofs.Told.{apart}
-use Rattle.written_lists.proofs.Outputs.{room-fits}
 use Rattle.payoff_order.specs.Order.{finite}
-use Rattle.payoff_tables.specs.Table.{tableGame, profilePart}
+use Rattle.payoff_tables.specs.Table.{profilePart}
 use Rattle.payoff_tables.specs.Checks.{tableRefusal}
 use Rattle.payoff_tables.proofs.Checks.{table-law}
-use Rattle.equilibria.specs.Answers.{tableEquilibria, listingAnswer, equilibriaChoices, equilibriaUtilities}
+use Rattle.equilibria.specs.Answers.{tableEquilibria, equilibriaAnswer, equilibriaChoices, equilibriaUtilities}
 use Rattle.equilibria.proofs.Listing.{listing-all}
+use Rattle.report_input.specs.Input.{maxReportCells}
 use Rattle.outputs.proofs.Put.{puts-more, puts-same}
 use Rattle.digits_and_lines.specs.Text.{decimal, line}
 use Rattle.report_layout.specs.Lines.{entryLines}
@@ -38,8 +38,8 @@ equilibria-requires c κs = search needs
 enum-told : tie.Need-enum-told
 enum-told c = search needs
 
-enum-known-number : tie.Need-enum-known-number
-enum-known-number c = search needs
+enum-known-listed : tie.Need-enum-known-listed
+enum-known-listed c = search needs
 
 slice-aggregate-put-number-line : tie.Need-slice-aggregate-put-number-line
 slice-aggregate-put-number-line c = search needs
@@ -67,22 +67,26 @@ module _ (k : tie.After-equilibria) where
   abbrev number : ℕ
   number = length (tableEquilibria counts payoffs)
 
-  fits : number * length counts ≤ 2048
-  fits = omega (arith, equilibria-fit counts payoffs (start .pre .0), start .pre .1)
+  -- the outputs hold all of them
+  all :
+      (equilibriaAnswer counts payoffs maxReportCells maxReportCells ≡ values (record { total = number; written = number }))
+      × (equilibriaChoices counts payoffs maxReportCells maxReportCells ≡ flatMap (λ x. x) (tableEquilibria counts payoffs))
+      × (equilibriaUtilities counts payoffs maxReportCells maxReportCells ≡ flatMap (profilePart counts payoffs) (tableEquilibria counts payoffs))
+  all =
+      let table = start .pre .0 in
+      let fits : number * length counts ≤ maxReportCells = omega (arith, equilibria-fit counts payoffs table, start .pre .1) in
+      listing-all counts payoffs (tableEquilibria counts payoffs) maxReportCells maxReportCells (table .shape .some) fits fits (tableRefusal counts payoffs) (table-law counts payoffs .1 table)
 
-  told : toldUsize (k .equilibria .result) ≡ values number
-  unfolding listingAnswer
-  told =
-      k .equilibria .ensures .0
-      ∙ ap₂ (λ (r s : Refusal). unless (r then s) number) (table-law counts payoffs .1 (start .pre .0)) (room-fits (number * length counts) 2048 2048 fits fits)
+  told : toldListing (k .equilibria .result) ≡ values (record { total = number; written = number })
+  told = k .equilibria .ensures .0 ∙ all .0
 
 returns : tie.Need-returns
 returns c =
     let k = c .before .before .before .before in
-    absurd (apart (number k) (numberOf (c .enum-told .given .0 .0)) (sym (told k) ∙ ap toldUsize (c .enum-told .given .1)))
+    absurd (apart (record { total = number k; written = number k }) (numberOf (c .enum-told .given .0 .0)) (sym (told k) ∙ ap toldListing (c .enum-told .given .1)))
 
--- the arm with a number
-module _ (n : tie.After-number) where
+-- the arm with both numbers
+module _ (n : tie.After-listed) where
   abbrev call : tie.After-equilibria
   call = n .before .before .before .before
 
@@ -95,23 +99,27 @@ module _ (n : tie.After-number) where
   abbrev utilities : List Float
   utilities = call .equilibria .last .1 .1 .1 .0
 
-  listed :
-      (n .number .given .0 .0 ≡ number call)
-      × (equilibriaChoices (counts call) (payoffs call) 2048 2048 ≡ flatMap (λ x. x) es)
-      × (equilibriaUtilities (counts call) (payoffs call) 2048 2048 ≡ flatMap (profilePart (counts call) (payoffs call)) es)
-  listed =
-      listing-all (counts call) (payoffs call) 2048 2048 (whole (tableGame (counts call) (payoffs call))) (tableRefusal (counts call) (payoffs call)) (n .number .given .0 .0)
-      (sym (ap toldUsize (n .number .given .1)) ∙ call .equilibria .ensures .0)
+  abbrev told-here : Listed
+  told-here = n .listed .given .0 .0
+
+  listed : told-here ≡ record { total = number call; written = number call }
+  listed = let e = sym (ap toldListing (n .listed .given .1)) ∙ told call in cc
+
+  total-is : told-here .total ≡ number call
+  total-is = ap (λ (l : Listed). l .total) listed
+
+  written-is : told-here .written ≡ number call
+  written-is = ap (λ (l : Listed). l .written) listed
 
   -- what the outputs hold: the listing, and what stood there
   choices-are : (rest : List ℕ) × (choices ≡ flatMap (λ x. x) es ++ rest)
   choices-are =
-      begins-with choices (replicate 2048 0) (equilibriaChoices (counts call) (payoffs call) 2048 2048) (flatMap (λ x. x) es) (call .equilibria .ensures .1 .0) (listed .1)
+      begins-with choices (replicate maxReportCells 0) (equilibriaChoices (counts call) (payoffs call) maxReportCells maxReportCells) (flatMap (λ x. x) es) (call .equilibria .ensures .1 .0) (all call .1)
 
   utilities-are : (rest : List Float) × (utilities ≡ flatMap (profilePart (counts call) (payoffs call)) es ++ rest)
   utilities-are =
-      begins-with utilities (replicate 2048 (ofBits binary64 0)) (equilibriaUtilities (counts call) (payoffs call) 2048 2048)
-      (flatMap (profilePart (counts call) (payoffs call)) es) (call .equilibria .ensures .1 .1) (listed .2)
+      begins-with utilities (replicate maxReportCells (ofBits binary64 0)) (equilibriaUtilities (counts call) (payoffs call) maxReportCells maxReportCells)
+      (flatMap (profilePart (counts call) (payoffs call)) es) (call .equilibria .ensures .1 .1) (all call .2)
 
   many : (number call * length (counts call) ≤ length choices) × (number call * length (counts call) ≤ length utilities)
   many =
@@ -127,8 +135,8 @@ put-entries-requires c κs =
     let n = c .before .before .before .before .before .before .before .before .before in
     let k = call n in
     let t = start k .pre .0 in
-    let e = listed n .0 in
-    let finites : (i : ℕ) → i < n .number .given .0 .0 * length (counts k) → T (finite (getD (utilities n) i nan)) =
+    let e = written-is n in
+    let finites : (i : ℕ) → i < told-here n .written * length (counts k) → T (finite (getD (utilities n) i nan)) =
     λ i l.
     let (us, u) = utilities-are n in
     let h : i < number k * length (counts k) = subst (λ (m : ℕ). i < m * length (counts k)) e l in
@@ -146,9 +154,9 @@ returns-2 c =
     let n = head .before .before .before .before in
     let k = call n in
     let a = start k .args in
-    let e = listed n .0 in
+    let e = written-is n in
     let one : ℕ → List ℕ = λ m. line (codes "equilibria" ∷ decimal m ∷ []) in
-    let m = n .number .given .0 .0 in
+    let m = told-here n .written in
     let p = length (counts k) in
     let (cs, c) = choices-are n in
     let (us, u) = utilities-are n in
@@ -156,8 +164,8 @@ returns-2 c =
     ap (λ (j : ℕ). entryLines p j (choices n) (utilities n)) e
     ∙ ap₂ (λ (xs : List ℕ) (ys : List Float). entryLines p (number k) xs ys) c u
     ∙ equilibria-lines (counts k) (payoffs k) (start k .pre .0) cs us in
-    puts-same (a .out .now) (a .at) (ap₂ (λ (xs ys : List ℕ). xs ++ ys) (ap one e) lines-are)
-    (puts-more (a .out .now) (a .at) (one m) (entryLines p m (choices n) (utilities n)) (head .put-number-line .ensures) (end .put-entries .ensures))
+    puts-same (a .out .now) (a .at) (ap₂ (λ (xs ys : List ℕ). xs ++ ys) (ap one (total-is n)) lines-are)
+    (puts-more (a .out .now) (a .at) (one (told-here n .total)) (entryLines p m (choices n) (utilities n)) (head .put-number-line .ensures) (end .put-entries .ensures))
 
 pub put-equilibria-spec : {M : Type 1} → statement M
 put-equilibria-spec =
@@ -167,7 +175,7 @@ put-equilibria-spec =
     slice-aggregate-equilibria-2
     equilibria-requires
     enum-told
-    enum-known-number
+    enum-known-listed
     slice-aggregate-put-number-line
     put-number-line-requires
     slice-aggregate-put-entries

@@ -1,20 +1,26 @@
 -- `view_fields::equilibria_of` meets its contract: more players than the limit are refused by 2 and nothing is written, and else the counts that
 -- are lent are the view's first. Assumes nothing.
-use mathlib.Core.Path.{refl, sym}
-use mathlib.Core.List.{flatMap}
+use mathlib.Core.Path.{sym}
+use mathlib.Core.List.{List}
+use Prim.Native.Nat.{ℕ}
 use native.Mathlib.Omega.{arith}
 use borrow.Author.Needs.{needs}
 use lib.Seq.{length-take-le}
-use Rattle.equilibria.specs.Answers.{listingAnswer, listedChoices, listedUtilities}
+use Rattle.refusal.specs.declared.NormalFormError.the-variants.{TooManyPlayers}
+use Rattle.payoff_tables.specs.Checks.{tableRefusal}
+use Rattle.equilibria.specs.Answers.{tableEquilibria}
+use Rattle.equilibria.proofs.Listing.{listing-refused}
+use Rattle.view_fields.specs.Counts.{firstCounts}
 use Rattle.view_fields.proofs.Laws.{firstCounts-take, firstCounts-many}
 use Rattle.view_fields.proofs.equilibria_of.Statement.{statement}
 use Rattle.view_fields.proofs.equilibria_of.Tie as tie
 
 returns : tie.Need-returns
-unfolding flatMap listingAnswer listedChoices listedUtilities
 returns c =
     let a = c .before .before .before .before .args in
-    rw (firstCounts-many (a .players) (a .t3) (a .payoffs .now) (c .if1 .taken)) (refl, (refl, refl))
+    let counts : List ℕ = firstCounts (a .players) (a .t3) in
+    listing-refused counts (a .payoffs .now) (tableEquilibria counts (a .payoffs .now)) (a .choices .now) (a .utilities .now) (tableRefusal counts (a .payoffs .now)) TooManyPlayers
+    (firstCounts-many (a .players) (a .t3) (a .payoffs .now) (c .if1 .taken))
 
 array-share-prefix-counts : tie.Need-array-share-prefix-counts
 array-share-prefix-counts c = search needs

@@ -40,12 +40,12 @@ use denote.Triple.Table.{entered, cited}
 use denote.Triple.Walked.{says, Stays, stay-dropped, gave-slice, walkOf, goes-dropped, goes-gave-slice, Walks, ends-at, walked, walk-meets}
 use denote.Exit.{yes}
 use denote.Triple.Clauses.{Lasts, ensured, lasts}
-use Rattle.refusal.specs.Told.{toldUsize}
+use Rattle.refusal.specs.Told.{toldListing}
 use Rattle.written_lists.specs.Outputs.{over}
 use Rattle.equilibria.specs.Answers.{equilibriaAnswer, equilibriaChoices, equilibriaUtilities}
-use Rattle.refusal.specs.declared.UsizeResult.{UsizeResult}
-use Rattle.refusal.proofs.UsizeResult as R
-use Rattle.refusal.proofs.UsizeResult.Laws as R′
+use Rattle.refusal.specs.declared.ListingResult.{ListingResult}
+use Rattle.refusal.proofs.ListingResult as R
+use Rattle.refusal.proofs.ListingResult.Laws as R′
 use Rattle.view.specs.Matrix.{countsOf}
 use Rattle.view.specs.declared.PayoffMatrix.{PayoffMatrix}
 use Rattle.view.proofs.Apart.{view-lft, view-val, view-vals, view-tells, view-typed, view-counts, apart}
@@ -92,8 +92,8 @@ module _ {M : Type 1} (𝓤 : URA M) (H : Heap 𝓤) (A : Atoms 𝓤) (W : Given
   tokens = alive 𝓤 H A f.signature κs qs
 
   -- what the callee says, which is the clause
-  abbrev Answers : UsizeResult → Type 0
-  Answers r = toldUsize r ≡ equilibriaAnswer (countsOf d) (now (d .payoffs)) (length (now x)) (length (now y))
+  abbrev Answers : ListingResult → Type 0
+  Answers r = toldListing r ≡ equilibriaAnswer (countsOf d) (now (d .payoffs)) (length (now x)) (length (now y))
 
   abbrev LastX : List ℕ → Type 0
   LastX ys = ys ≡ over (equilibriaChoices (countsOf d) (now (d .payoffs)) (length (now x)) (length (now y))) (now x)
@@ -114,7 +114,7 @@ module _ {M : Type 1} (𝓤 : URA M) (H : Heap 𝓤) (A : Atoms 𝓤) (W : Given
   abbrev to : Of 𝓤 H A mem run .Ghost
   to = ((κs, qs, tt, args, passed), tt)
 
-  exits : (r : UsizeResult) (u : Val) (ys : List ℕ) (zs : List Float) → Answers r → LastX ys → LastY zs → length ys ≡ length (x .now) → length zs ≡ length (y .now)
+  exits : (r : ListingResult) (u : Val) (ys : List ℕ) (zs : List Float) → Answers r → LastX ys → LastY zs → length ys ≡ length (x .now) → length zs ≡ length (y .now)
       → ent 𝓤 (⋆ 𝓤 H A (‵ (R.the-row .own r (u ∷ [])) ∷ raw tokens ∷ ‵ (finally f64 (y .name) zs) ∷ ‵ ftrue ∷ ‵ (finally usize (x .name) ys) ∷ [])) (Post u)
   exits r u ys zs answers last-x last-y same-x same-y =
       qed W (‵ (R.the-row .own r (u ∷ [])) ∷ raw tokens ∷ ‵ (finally f64 (y .name) zs) ∷ ‵ ftrue ∷ ‵ (finally usize (x .name) ys) ∷ []) ∵
@@ -138,7 +138,7 @@ module _ {M : Type 1} (𝓤 : URA M) (H : Heap 𝓤) (A : Atoms 𝓤) (W : Given
         assigns ! (agg ! (and-then ! (load ! (from ! (stop !)) (look ! 2 refl)) (and-then ! (load ! (from ! (fld ! refl (stop !))) (look-in ! 14 (sub ! 1 refl (whole !)))) (no-more !)))) (from ! (stop !)) (init ! 0 refl (tt, (tt, (record { fits = is-y .0 .1 .0 }, tt)))) $
         move ! (22 ∷ []) $ use1 W (raw (Of 𝓤 H A mem run .pre to)) (apart κ d is 𝓤 H A W tokens (owns (MutSlice (named 1) κ₁ usize ∷ MutSlice (named 2) κ₂ f64 ∷ []) (a .1) (vals .1))) $
         calls-at ! fm (Of 𝓤 H A mem run) known to (and-then ! (load ! (from ! (stop !)) (look ! 13 refl)) (and-then ! (load ! (from ! (stop !)) (look ! 11 refl)) (and-then ! (load ! (from ! (stop !)) (look ! 9 refl)) (and-then ! (load ! (from ! (stop !)) (look ! 5 refl)) (and-then ! (load ! (from ! (stop !)) (look ! 1 refl)) (no-more !)))))) (λ u.
-        use1 W (later (some (λ (r : UsizeResult). (raw tokens ⊛ ‵ (R.the-row .own r (u ∷ []))) ⊛ raw (ensured 𝓤 H A of.ended (of.clauses 𝓤 H A mem run) κs args tt r)))) (id⊢ 𝓤 _) $ await ! tt $ pick ! (λ r. split ! $ move ! (1 ∷ []) $
+        use1 W (later (some (λ (r : ListingResult). (raw tokens ⊛ ‵ (R.the-row .own r (u ∷ []))) ⊛ raw (ensured 𝓤 H A of.ended (of.clauses 𝓤 H A mem run) κs args tt r)))) (id⊢ 𝓤 _) $ await ! tt $ pick ! (λ r. split ! $ move ! (1 ∷ []) $
         use1 W (some (λ (ws : Lasts of.ended κs args). ‵ (lasts of.ended κs args ws) ⊛ raw (fact 𝓤 (Answers r)) ⊛ raw (fact 𝓤 (LastX (ws .1 .1 .1 .0))) ⊛ raw (fact 𝓤 (LastY (ws .1 .1 .1 .1 .0))))) (id⊢ 𝓤 _) $ pick ! (λ ws. split ! $ move ! (1 ∷ []) $ split ! $
         heard ! (Answers r) (λ answers. split ! $ heard ! (LastX (ws .1 .1 .1 .0)) (λ last-x. heard ! (LastY (ws .1 .1 .1 .1 .0)) (λ last-y.
         -- [what is said of last values, nothing of the first three; the tokens and the result; _10; …]
