@@ -194,6 +194,16 @@ def exactly(length, read):
     return read_exactly
 
 
+def at_most(length, read):
+    """The reader of a list of no more than so many elements."""
+    def read_at_most(text):
+        elements = read(text)
+        if len(elements) > length:
+            raise Unreadable("%d elements, over %d" % (len(elements), length))
+        return elements
+    return read_at_most
+
+
 def finite_reals(text):
     """A list of floats that are all finite."""
     elements = reals(text)

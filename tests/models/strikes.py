@@ -137,6 +137,21 @@ def strikes(counts, payoffs, players, strategies, answers, dominators):
     return accepted, survivors
 
 
+def strike_each(counts, payoffs, survivors, players, strategies):
+    """A call of strike for each that two lists name, on the survivors that the last handed back.
+
+    Returns the number of accepted ones and the survivors. Of unequal lists the shorter counts.
+    """
+    accepted = 0
+    for player, strategy in zip(players, strategies):
+        try:
+            dominator, survivors = strike(counts, payoffs, survivors, player, strategy)
+        except Refused:
+            continue
+        accepted += 1
+    return accepted, survivors
+
+
 def surviving_equilibria(counts, payoffs, survivors, choices, utilities):
     """As the listing, but profiles of survivors only, and changes to survivors only."""
     check_table(counts, payoffs)

@@ -316,18 +316,22 @@ def equilibrium_list(counts, payoffs, standing):
 
 
 def write_equilibria(counts, payoffs, found, choices, utilities):
-    """P choices of each into one buffer, P payoffs into another; returns how many."""
+    """The first that both outputs hold whole: P choices into one buffer, P payoffs into another.
+
+    Returns the total and the number written (change N2).
+    """
     players = len(counts)
-    check_outputs((choices, len(found) * players), (utilities, len(found) * players))
-    all_choices = []
-    all_payoffs = []
-    for profile in found:
+    held = min(len(choices) // players, len(utilities) // players)
+    first = found[:held]
+    first_choices = []
+    first_payoffs = []
+    for profile in first:
         start = offset_of(counts, profile) * players
-        all_choices += profile
-        all_payoffs += payoffs[start:start + players]
-    write(choices, all_choices)
-    write(utilities, all_payoffs)
-    return len(found)
+        first_choices += profile
+        first_payoffs += payoffs[start:start + players]
+    write(choices, first_choices)
+    write(utilities, first_payoffs)
+    return len(found), len(first)
 
 
 def is_equilibrium(counts, payoffs, profile):
@@ -335,11 +339,6 @@ def is_equilibrium(counts, payoffs, profile):
     check_profile(counts, profile)
     keys = order_keys(payoffs)
     return no_change_gains(counts, steps_of(counts), keys, profile, every_strategy(counts))
-
-
-def count_equilibria(counts, payoffs):
-    check_table(counts, payoffs)
-    return len(equilibrium_list(counts, payoffs, every_strategy(counts)))
 
 
 def equilibria(counts, payoffs, choices, utilities):
