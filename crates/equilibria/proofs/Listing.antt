@@ -1,10 +1,10 @@
 -- A listing's laws: what it tells and writes where nothing refuses, that outputs which hold all get all, and that a refused listing leaves both
 -- outputs as they were. Assumes nothing.
-use mathlib.Core.Path.{_≡_, refl, sym, ap, _∙_}
-use mathlib.Core.List.{List, map, flatMap}
+use mathlib.Core.Path.{_≡_, refl, ap, _∙_}
+use mathlib.Core.List.{List, [], map, flatMap}
 use mathlib.Core.Option.{none, some}
 use Prim.Native.Nat.{ℕ, _*_, _≤_, _<_}
-use lib.ListN.{length, take, length-map}
+use lib.ListN.{length}
 use lib.Seq.{take-length}
 use lib.Ieee.{Float}
 use Rattle.refusal.specs.Refusal.{Refusal, numberOf}
@@ -13,7 +13,7 @@ use Rattle.refusal.specs.declared.Listed.{Listed}
 use Rattle.refusal.specs.declared.NormalFormError.{NormalFormError}
 use Rattle.written_lists.specs.Outputs.{writtenOf, joined, over}
 use Rattle.written_lists.specs.Listing.{listedOf}
-use Rattle.written_lists.proofs.Outputs.{refused-kept, flat-map}
+use Rattle.written_lists.proofs.Outputs.{refused-kept, joined-map}
 use Rattle.written_lists.proofs.Listing.{listed-all}
 use Rattle.payoff_tables.specs.Table.{profilePart}
 use Rattle.equilibria.specs.Answers.{listingAnswer, listedChoices, listedUtilities}
@@ -38,12 +38,17 @@ module _ (counts : List ℕ) (payoffs : List Float) (es : List (List ℕ)) where
     unfolding listingAnswer listedChoices listedUtilities
     listing-told r h l (is, (first, second)) = rw h (ap (λ (l : Listed). values l) is, (first ∙ ap (λ (l : Listed). over (joined (l .written) es) old) is, second ∙ ap (λ (l : Listed). over (joined (l .written) (map (profilePart counts payoffs) es)) old′) is))
 
-  -- What refuses is told, and nothing is written.
+  -- What refuses is told, and nothing is written: both outputs are as they were.
   pub listing-refused : (old : List ℕ) (old′ : List Float) (r : Refusal) (e : NormalFormError) → r ≡ some e → Lists old old old′ old′ r (refused (numberOf e))
   unfolding listingAnswer listedChoices listedUtilities
   listing-refused old old′ r e h = rw h (refl, (refl, refl))
 
   module _ (a b : ℕ) where
+    pub listing-none : (r : Refusal) (e : NormalFormError) → r ≡ some e
+        → (listingAnswer counts payoffs r es a b ≡ refused (numberOf e)) × (listedChoices counts payoffs r es a b ≡ []) × (listedUtilities counts payoffs r es a b ≡ [])
+    unfolding listingAnswer listedChoices listedUtilities
+    listing-none r e h = rw h (refl, refl, refl)
+
     -- A listing that refuses leaves both outputs as they were.
     pub listing-kept : (r : Refusal) (e : ℕ) → listingAnswer counts payoffs r es a b ≡ refused e → (old : List ℕ) (old′ : List Float)
         → (over (listedChoices counts payoffs r es a b) old ≡ old) × (over (listedUtilities counts payoffs r es a b) old′ ≡ old′)
@@ -64,5 +69,5 @@ module _ (counts : List ℕ) (payoffs : List Float) (es : List (List ℕ)) where
         rw (no-refusal, listed-all es (length counts) a b least h k) (
           refl,
           ap (flatMap (λ x. x)) (take-length es),
-          ap (flatMap (λ x. x)) (ap (λ (n : ℕ). take n (map part es)) (sym (length-map es part)) ∙ take-length (map part es)) ∙ flat-map part es,
+          joined-map part (length es) es ∙ ap (flatMap part) (take-length es),
         )

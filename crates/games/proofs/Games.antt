@@ -12,6 +12,7 @@ use Rattle.game.specs.Solution.{dominates, dominators, dominator, gains, deviat
 use Rattle.game.specs.Strikes.{answer}
 use Rattle.refusal.specs.Told.{values, refused}
 use Rattle.written_lists.specs.Outputs.{roomRefusal}
+use Rattle.written_lists.specs.Listing.{listedOf}
 use Rattle.payoff_order.specs.Order.{finite, key as orderKey, rank}
 use Rattle.payoff_tables.specs.Table.{offset, cell, payoffAt, profilePart, tableGame}
 use Rattle.payoff_tables.specs.Checks.{countRefusal, countsRefusal, payoffsRefusal, tableRefusal, playerRefusal, profileRefusal}
@@ -41,17 +42,17 @@ left counts payoffs v p s = strikeLeaves counts payoffs v (strategy p s)
 
 record Games : Type 0 where
   -- (2,2) (0,3) (3,0) (1,1): equilibrium 1 1; key 10212, number 71
-  dilemma-told : equilibriaAnswer pair dilemma 2 2 ≡ values 1
+  dilemma-told : equilibriaAnswer pair dilemma 2 2 ≡ values (record { total = 1; written = 1 })
   dilemma-choices : equilibriaChoices pair dilemma 2 2 ≡ 1 ∷ 1 ∷ []
   dilemma-key : leastKey (ranks (bimatrix (tableGame pair dilemma))) ≡ 10212
   dilemma-number : numberAnswer pair dilemma ≡ values (some 71)
   -- matching pennies: none
-  pennies-told : equilibriaAnswer pair pennies 0 0 ≡ values 0
+  pennies-told : equilibriaAnswer pair pennies 0 0 ≡ values (record { total = 0; written = 0 })
   -- (2,2) (0,0) (0,0) (1,1): 0 0 and 1 1
-  twice-told : equilibriaAnswer pair twice 4 4 ≡ values 2
+  twice-told : equilibriaAnswer pair twice 4 4 ≡ values (record { total = 2; written = 2 })
   twice-choices : equilibriaChoices pair twice 4 4 ≡ 0 ∷ 0 ∷ 1 ∷ 1 ∷ []
   -- one player, 1 5 5: equilibria 1, 2; strike 0 answers 1; strike 1 gives 15
-  ties-told : equilibriaAnswer (3 ∷ []) ties 2 2 ≡ values 2
+  ties-told : equilibriaAnswer (3 ∷ []) ties 2 2 ≡ values (record { total = 2; written = 2 })
   ties-choices : equilibriaChoices (3 ∷ []) ties 2 2 ≡ 1 ∷ 2 ∷ []
   ties-0 : strikeAnswer (3 ∷ []) ties (freshOf (3 ∷ [])) (strategy 0 0) ≡ values 1
   ties-1 : strikeAnswer (3 ∷ []) ties (freshOf (3 ∷ [])) (strategy 0 1) ≡ refused 15
@@ -72,7 +73,7 @@ record Games : Type 0 where
   repeated-after : strikeAnswer pair after (left pair after (freshOf pair) 1 1) (strategy 1 1) ≡ refused 14
 
 games : Games
-unfolding flatMap strategies profiles whole inside others dominates dominators dominator gains deviations bestResponse bestResponses equilibrium equilibria answer finite orderKey rank Ieee.toBits Ieee.ofBits offset payoffAt profilePart tableGame marked countRefusal countsRefusal payoffsRefusal tableRefusal playerRefusal profileRefusal roomRefusal opponentsRefusal responses responseUtilities responsesAnswer listingAnswer listedChoices withoutMark allMarks freshOf markedFrom foreign strikeAnswer strikeLeaves rankAmong different strictlyRanked key leastKey orders rankings catalogue place twoByTwo gameNumber numberAnswer
+unfolding flatMap strategies profiles whole inside others dominates dominators dominator gains deviations bestResponse bestResponses equilibrium equilibria answer finite orderKey rank Ieee.toBits Ieee.ofBits offset payoffAt profilePart tableGame marked countRefusal countsRefusal payoffsRefusal tableRefusal playerRefusal profileRefusal roomRefusal opponentsRefusal responses responseUtilities responsesAnswer listedOf listingAnswer listedChoices withoutMark allMarks freshOf markedFrom foreign strikeAnswer strikeLeaves rankAmong different strictlyRanked key leastKey orders rankings catalogue place twoByTwo gameNumber numberAnswer
 games =
     record {
       dilemma-told = refl;

@@ -11,6 +11,7 @@ use Rattle.game.specs.Solution.{dominates, dominators, dominator, gains, deviat
 use Rattle.game.specs.Strikes.{answer}
 use Rattle.refusal.specs.Told.{Told, values, refused}
 use Rattle.written_lists.specs.Outputs.{roomRefusal}
+use Rattle.written_lists.specs.Listing.{listedOf}
 use Rattle.payoff_order.specs.Order.{finite, key, rank}
 use Rattle.payoff_tables.specs.Limits.{maxPlayers, maxMarks}
 use Rattle.payoff_tables.specs.Table.{offset, payoffAt, profilePart, tableGame}
@@ -41,9 +42,9 @@ record Computed : Type 0 where
   -- the prisoner's dilemma: what is left, and the equilibria over it
   dilemma-struck : answers pair dilemma both ≡ values 1 ∷ values 1 ∷ []
   dilemma-left : markCount left ≡ 2
-  dilemma-listed : survivingAnswer pair dilemma left 2 2 ≡ values 1
+  dilemma-listed : survivingAnswer pair dilemma left 2 2 ≡ values (record { total = 1; written = 1 })
   dilemma-choices : survivingChoices pair dilemma left 2 2 ≡ 1 ∷ 1 ∷ []
-  dilemma-short : survivingAnswer pair dilemma left 1 2 ≡ refused 13
+  dilemma-short : survivingAnswer pair dilemma left 1 2 ≡ values (record { total = 1; written = 0 })
   -- no such player, and no such strategy
   no-such : answers pair dilemma (strategy 2 0 ∷ strategy 0 2 ∷ []) ≡ refused 8 ∷ refused 14 ∷ []
   -- refused fresh survivors have P 0, counts 0 and no mark, and are foreign to a table; a refusal of the table comes first
@@ -57,7 +58,7 @@ record Computed : Type 0 where
   list-short : strikesAnswer pair dilemma both 2 1 ≡ refused 13
 
 computed : Computed
-unfolding flatMap strategies profiles whole inside others dominates dominators dominator gains deviations equilibrium equilibria answer finite key rank Ieee.toBits Ieee.ofBits offset payoffAt profilePart tableGame marked countRefusal countsRefusal payoffsRefusal tableRefusal roomRefusal listingAnswer listedChoices withoutMark markCount allMarks freshOf markedFrom foreign strikeAnswer strikeLeaves strikesAnswer
+unfolding flatMap strategies profiles whole inside others dominates dominators dominator gains deviations equilibrium equilibria answer finite key rank Ieee.toBits Ieee.ofBits offset payoffAt profilePart tableGame marked countRefusal countsRefusal payoffsRefusal tableRefusal roomRefusal listedOf listingAnswer listedChoices withoutMark markCount allMarks freshOf markedFrom foreign strikeAnswer strikeLeaves strikesAnswer
 computed =
     record {
       tied = refl;

@@ -94,14 +94,7 @@ pub fn equilibria(
         UsizeResult::Err(e) => ListingResult::Err(e),
         UsizeResult::Ok(total) => {
             let marks = [true; MAX_MARKS];
-            ListingResult::Ok(marked_equilibria(
-                counts,
-                payoffs,
-                &marks,
-                total,
-                choices,
-                utilities,
-            ))
+            ListingResult::Ok(marked_equilibria(counts, payoffs, &marks, total, choices, utilities))
         }
     }
 }

@@ -1,7 +1,8 @@
 -- Demand 3 at the calls: the record of specs/Demand3, for every table with none of refusals 1 to 7 and every list of calls, from the chain's
 -- agreement with the machine (Chain) and the theorem of `game` about the machine. Assumes nothing.
-use mathlib.Core.Path.{_≡_, refl, sym, ap, ap₂, _∙_, subst}
+use mathlib.Core.Path.{_≡_, refl, sym, ap, ap₂, _∙_, subst, subst₂}
 use mathlib.Core.List.{List, map}
+use mathlib.Core.Logic.{⊎-elim}
 use mathlib.Core.Option.{none}
 use Prim.Native.Nat.{ℕ}
 use lib.ListN.{length}
@@ -26,7 +27,7 @@ use Rattle.survivors.specs.declared.Survivors.{Survivors}
 use Rattle.survivors.specs.Survivors.{marksOf, freshOf}
 use Rattle.strikes.specs.Answers.{survivorsRefusal}
 use Rattle.strike_chains.specs.Answers.{chain, acceptedOf, dominatorOf, answersSaid}
-use Rattle.strike_chains.specs.Demand3.{SameTotal, SameListing, HoldsAll, Demand3}
+use Rattle.strike_chains.specs.Demand3.{SameTotal, SameListing, EqualOrHoldAll, Demand3}
 use Rattle.survivors.proofs.Marks.{fresh-marks, count-fresh}
 use Rattle.survivors.proofs.Foreign.{own-not, foreign-law}
 use Rattle.strikes.proofs.Cases.{not-foreign}
@@ -47,8 +48,8 @@ module _ (counts : List ℕ) (payoffs : List Float) (t : Table counts payoffs) w
     own = not-foreign counts payoffs v none-applies (own-not counts v (k .own))
 
     -- What both listings refuse is the same, and so are the profiles that they list.
-    same-listing : (a b : ℕ) → SameListing counts payoffs v a b a b
-    same-listing a b =
+    same-lengths : (a b : ℕ) → SameListing counts payoffs v a b a b
+    same-lengths a b =
         let same = own ∙ sym none-applies in
         record {
           answer = ap₂ (λ (r : Refusal) (es : List (List ℕ)). listingAnswer counts payoffs r es a b) same is;
@@ -56,18 +57,19 @@ module _ (counts : List ℕ) (payoffs : List Float) (t : Table counts payoffs) w
           utilities = ap₂ (λ (r : Refusal) (es : List (List ℕ)). listedUtilities counts payoffs r es a b) same is;
         }
 
-    same-held : (a b c d : ℕ) → HoldsAll counts payoffs a → HoldsAll counts payoffs b → HoldsAll counts payoffs c → HoldsAll counts payoffs d
-        → SameListing counts payoffs v a b c d
-    same-held a b c d i j l m =
-        let s = same-listing a b in
+    same-listing : (a b c d : ℕ) → EqualOrHoldAll counts payoffs a b c d → SameListing counts payoffs v a b c d
+    same-listing a b c d =
+        ⊎-elim (λ h. subst₂ (SameListing counts payoffs v a b) (h .0) (h .1) (same-lengths a b))
+        (λ h.
+        let s = same-lengths a b in
         let es : List (List ℕ) = tableEquilibria counts payoffs in
-        let first = listing-all counts payoffs es a b (t .shape .some) i j (tableRefusal counts payoffs) none-applies in
-        let second = listing-all counts payoffs es c d (t .shape .some) l m (tableRefusal counts payoffs) none-applies in
+        let first = listing-all counts payoffs es a b (t .shape .some) (h .0) (h .1) (tableRefusal counts payoffs) none-applies in
+        let second = listing-all counts payoffs es c d (t .shape .some) (h .2) (h .3) (tableRefusal counts payoffs) none-applies in
         record {
           answer = s .answer ∙ first .0 ∙ sym (second .0);
           choices = s .choices ∙ first .1 ∙ sym (second .1);
           utilities = s .utilities ∙ first .2 ∙ sym (second .2);
-        }
+        })
 
     same-total : (a b c d : ℕ) → SameTotal counts payoffs v a b c d
     unfolding listingAnswer listedOf
@@ -98,7 +100,6 @@ module _ (counts : List ℕ) (payoffs : List Float) (t : Table counts payoffs) w
         own = foreign-law counts (left cs) .1 (r .stays .own);
         same-total = same-total (left cs) (r .stays) is;
         same-listing = same-listing (left cs) (r .stays) is;
-        same-held = same-held (left cs) (r .stays) is;
         number = refl;
         counted = chain-counted counts payoffs t (freshOf counts) (fresh-good counts payoffs t) cs ∙ count-fresh counts (t .shape);
         same-marks = λ ds a b.

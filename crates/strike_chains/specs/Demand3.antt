@@ -6,6 +6,7 @@
 -- all the calls: nobody writes it meanwhile. Assumes nothing.
 use mathlib.Core.Path.{_≡_}
 use mathlib.Core.List.{List, map}
+use mathlib.Core.Logic.{_⊎_}
 use mathlib.Core.Option.{none}
 use Prim.Native.Nat.{ℕ, _+_, _*_, _≤_}
 use lib.ListN.{length}
@@ -39,6 +40,10 @@ module _ (counts : List ℕ) (payoffs : List Float) where
   abbrev pub HoldsAll : ℕ → Type 0
   HoldsAll n = length (tableEquilibria counts payoffs) * length counts ≤ n
 
+  -- outputs of lengths a and b, and of c and d, have equal lengths or hold them all
+  abbrev pub EqualOrHoldAll : (a b c d : ℕ) → Type 0
+  EqualOrHoldAll a b c d = ((a ≡ c) × (b ≡ d)) ⊎ (HoldsAll a × HoldsAll b × HoldsAll c × HoldsAll d)
+
   -- The claim about the list of calls cs: its answers are ans, n of them tell that a call was
   -- accepted, and v is handed back at last.
   pub record Demand3 (cs : List Strategy) (n : ℕ) (ans : List (Told ℕ)) (v : Survivors) : Type 0 where
@@ -53,10 +58,8 @@ module _ (counts : List ℕ) (payoffs : List Float) where
     pub own : foreignRefusal counts v ≡ none
     -- There are as many equilibria over the survivors as of the whole table, whatever the outputs' lengths.
     pub same-total : (a b c d : ℕ) → SameTotal v a b c d
-    -- Those written are the same where the outputs have equal lengths
-    pub same-listing : (a b : ℕ) → SameListing v a b a b
-    -- or hold them all.
-    pub same-held : (a b c d : ℕ) → HoldsAll a → HoldsAll b → HoldsAll c → HoldsAll d → SameListing v a b c d
+    -- Those that are written are the same, where the outputs have equal lengths or hold them all.
+    pub same-listing : (a b c d : ℕ) → EqualOrHoldAll a b c d → SameListing v a b c d
     -- Accepted strikes are counted by their answers.
     pub number : n ≡ acceptedOf ans
     -- Accepted + marks = the strategies at the start, the sum of the counts.

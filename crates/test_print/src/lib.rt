@@ -2,6 +2,7 @@
 // a call told and what its outputs hold, each after a space.
 use libc::STDOUT_FILENO;
 use refusal::BoolResult;
+use refusal::ListingResult;
 use refusal::UnitResult;
 use refusal::UsizeResult;
 
@@ -113,6 +114,18 @@ pub fn told_usize(r: UsizeResult) {
             number(n);
         }
         UsizeResult::Err(e) => refused(e.number()),
+    }
+}
+
+// The total and the number written of an accepted listing, or the refusal's number.
+pub fn told_listing(r: ListingResult) {
+    match r {
+        ListingResult::Ok(listed) => {
+            text(b" ok");
+            number(listed.total);
+            number(listed.written);
+        }
+        ListingResult::Err(e) => refused(e.number()),
     }
 }
 

@@ -10,6 +10,8 @@
 //     after each accepted strike too;
 //     `strikes` on the same list answers, and leaves, the same.
 // Only counts are printed, and the table's number where one of these does not hold.
+use refusal::Listed;
+use refusal::ListingResult;
 use refusal::UsizeResult;
 use survivors::Survivors;
 use table::MAX_MARKS;
@@ -266,11 +268,27 @@ fn same_written(
     same
 }
 
-// What a call told as one number: a refusal is counted down from the largest.
+// A refusal as a number: its own, counted down from the largest.
+fn refusal(number: u32) -> usize {
+    std::num::wrapping_sub_usize(usize::MAX, number as usize)
+}
+
+// What a call told as one number.
 fn told(r: UsizeResult) -> usize {
     match r {
         UsizeResult::Ok(n) => n,
-        UsizeResult::Err(e) => std::num::wrapping_sub_usize(usize::MAX, e.number() as usize),
+        UsizeResult::Err(e) => refusal(e.number()),
+    }
+}
+
+// What a listing told; a refusal is both its numbers.
+fn told_listing(r: ListingResult) -> Listed {
+    match r {
+        ListingResult::Ok(listed) => listed,
+        ListingResult::Err(e) => Listed {
+            total: refusal(e.number()),
+            written: refusal(e.number()),
+        },
     }
 }
 
@@ -285,21 +303,23 @@ fn listings(
     let mut utilities = [FLOAT_FILLING; CELLS];
     let mut whole_choices = [FILLING; CELLS];
     let mut whole_utilities = [FLOAT_FILLING; CELLS];
-    let n = told(survivor_calls::surviving_equilibria(
+    let surviving = told_listing(survivor_calls::surviving_equilibria(
         counts,
         payoffs,
         left,
         &mut choices,
         &mut utilities,
     ));
-    let whole = told(pure_nash::equilibria(
+    let whole = told_listing(pure_nash::equilibria(
         counts,
         payoffs,
         &mut whole_choices,
         &mut whole_utilities,
     ));
-    add(tally, EQUILIBRIA, whole);
-    (n == whole) & same_written(&choices, &whole_choices, &utilities, &whole_utilities)
+    add(tally, EQUILIBRIA, whole.total);
+    (surviving.total == whole.total)
+        & (surviving.written == whole.written)
+        & same_written(&choices, &whole_choices, &utilities, &whole_utilities)
 }
 
 // Of a table, survivors and other survivors: the strategies; the survivors' marks, and the players

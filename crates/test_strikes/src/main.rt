@@ -17,6 +17,7 @@ use test_print::answer;
 use test_print::output;
 use test_print::output_floats;
 use test_print::text;
+use test_print::told_listing;
 use test_print::told_usize;
 use test_survivors::none;
 use test_survivors::survivors_of;
@@ -68,7 +69,7 @@ fn surviving_equilibria(
     choices: &mut [usize],
     utilities: &mut [f64],
 ) -> Survivors {
-    told_usize(survivor_calls::surviving_equilibria(counts, payoffs, left, choices, utilities));
+    told_listing(survivor_calls::surviving_equilibria(counts, payoffs, left, choices, utilities));
     output(choices);
     output_floats(utilities);
     left

@@ -11,19 +11,21 @@ use lib.ListN.{length, getD, drop}
 use lib.Seq.{drop-nil, drop-cons}
 use lib.Ieee.{Float}
 use Rattle.game.specs.Finite.{sum}
-use Rattle.game.specs.Game.{Strategy, whole}
+use Rattle.game.specs.Game.{Strategy}
 use Rattle.refusal.specs.Refusal.{Refusal}
-use Rattle.refusal.specs.Told.{Told, values, refused, tells, unlessRefused}
+use Rattle.refusal.specs.Told.{Told, values, refused, toldOf, tells, unlessRefused}
+use Rattle.refusal.specs.declared.Listed.{Listed}
+use Rattle.refusal.specs.declared.NormalFormError.{NormalFormError}
 use Rattle.payoff_tables.specs.Checks.{tableRefusal}
 use Rattle.payoff_tables.proofs.Checks.{table-law}
-use Rattle.equilibria.proofs.Listing.{listing-refused}
-use Rattle.payoff_tables.specs.Table.{tableGame}
+use Rattle.equilibria.specs.Answers.{tableEquilibria}
+use Rattle.equilibria.proofs.Listing.{listing-none}
 use Rattle.survivors.specs.declared.Survivors.{Survivors}
-use Rattle.survivors.specs.Survivors.{freshOf, noSurvivors, markCount, marksOf}
-use Rattle.strikes.specs.Answers.{survivorsRefusal, strikeAnswer, strikeLeaves}
+use Rattle.survivors.specs.Survivors.{freshOf, noSurvivors, markCount}
+use Rattle.strikes.specs.Answers.{survivorsRefusal, strikeAnswer, strikeLeaves, survivingEquilibria}
 use Rattle.strikes.proofs.Cases.{table-first}
 use Rattle.strike_chains.specs.Answers.{Chain, chainFrom, chain, acceptedOf}
-use Rattle.strike_chains.specs.Demand3.{SameListing}
+use Rattle.strike_chains.specs.Demand3.{SameTotal, SameListing, EqualOrHoldAll}
 use Rattle.strike_chains.proofs.Chain.{accepted-cons}
 use Rattle.strike_chains.proofs.Demand3.{demand-3}
 
@@ -89,19 +91,35 @@ module _ (counts : List ℕ) (payoffs : List Float) (v : Survivors) (from : v �
   abbrev left : Survivors
   left = chainFrom counts payoffs v cs .survivors
 
-  -- from what `fresh` handed back, whatever it answered, both listings are the same
-  pub same : (a b : ℕ) → SameListing counts payoffs left a b a b
-  same a b = go (tableRefusal counts payoffs) refl
+  -- what is true of the survivors of every accepted table's calls, and of refused tables, is true of
+  -- what `fresh` handed back, whatever it answered
+  whatever : (C : Survivors → Type 0) → (tableRefusal counts payoffs ≡ none → C (chain counts payoffs cs .survivors))
+      → ((e : NormalFormError) → tableRefusal counts payoffs ≡ some e → C left) → C left
+  whatever C accepted denied = go (tableRefusal counts payoffs) refl
     where
-      go : (r : Refusal) → tableRefusal counts payoffs ≡ r → SameListing counts payoffs left a b a b
+      go : (r : Refusal) → tableRefusal counts payoffs ≡ r → C left
       go none h =
           let is : v ≡ freshOf counts = from ∙ ap (λ (q : Refusal). unlessRefused q (freshOf counts) noSurvivors) h in
-          subst (λ (u : Survivors). SameListing counts payoffs (chainFrom counts payoffs u cs .survivors) a b a b) (sym is) (demand-3 counts payoffs (table-law counts payoffs .0 h) cs .same-listing a b)
-      go (some e) h =
-          let g = tableGame counts payoffs in
-          let (x, y, z) = listing-refused counts payoffs a b (marksOf left) (survivorsRefusal counts payoffs left) e (table-first counts payoffs left e h) in
-          let (x′, y′, z′) = listing-refused counts payoffs a b (whole g) (tableRefusal counts payoffs) e h in
-          record { answer = sym x ∙ x′; choices = y ∙ sym y′; utilities = z ∙ sym z′ }
+          subst (λ (u : Survivors). C (chainFrom counts payoffs u cs .survivors)) (sym is) (accepted h)
+      go (some e) h = denied e h
+
+  -- both listings tell the same total,
+  pub same-total : (a b c d : ℕ) → SameTotal counts payoffs left a b c d
+  same-total a b c d =
+      whatever (λ u. SameTotal counts payoffs u a b c d) (λ h. demand-3 counts payoffs (table-law counts payoffs .0 h) cs .same-total a b c d)
+      (λ e h.
+      let first = listing-none counts payoffs (survivingEquilibria counts payoffs left) a b (survivorsRefusal counts payoffs left) e (table-first counts payoffs left e h) in
+      let second = listing-none counts payoffs (tableEquilibria counts payoffs) c d (tableRefusal counts payoffs) e h in
+      ap (toldOf (λ (l : Listed). l .total)) (first .0 ∙ sym (second .0)))
+
+  -- and they are the same where their outputs have equal lengths or hold all
+  pub same-listing : (a b c d : ℕ) → EqualOrHoldAll counts payoffs a b c d → SameListing counts payoffs left a b c d
+  same-listing a b c d k =
+      whatever (λ u. SameListing counts payoffs u a b c d) (λ h. demand-3 counts payoffs (table-law counts payoffs .0 h) cs .same-listing a b c d k)
+      (λ e h.
+      let first = listing-none counts payoffs (survivingEquilibria counts payoffs left) a b (survivorsRefusal counts payoffs left) e (table-first counts payoffs left e h) in
+      let second = listing-none counts payoffs (tableEquilibria counts payoffs) c d (tableRefusal counts payoffs) e h in
+      record { answer = first .0 ∙ sym (second .0); choices = first .1 ∙ sym (second .1); utilities = first .2 ∙ sym (second .2) })
 
   -- and accepted strikes and marks make up all strategies
   pub counted : tableRefusal counts payoffs ≡ none → acceptedOf (chainFrom counts payoffs v cs .answers) + markCount left ≡ sum counts

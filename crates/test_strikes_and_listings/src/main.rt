@@ -1,12 +1,15 @@
 // Demand 3 as statements about document 01's own calls, made one after the other. `strike_and_list`
 // makes fresh survivors, strikes each call of a list on the survivors that the last one handed
-// back, lists the equilibria over these, and then those of the whole table; its contract says that
-// both listings answered and wrote the same, for every table, list and outputs of equal lengths.
+// back, lists the equilibria over these, and then those of the whole table; its contract says, for
+// every table, list and outputs, that both listings told the same total, and wrote the same where
+// their outputs have equal lengths or hold all.
 // `strike_twice` strikes once more what it struck. Both are calls of the lines of standard input,
 // which have document 01's games and others, in the form of docs/TESTING.md:
 //     strike_and_list, COUNTS, PAYOFFS, players, strategies, and four outputs: how many strikes were
-//     accepted, and each listing's answer, choices and payoffs, as they stand in its outputs;
+//     accepted, and each listing's answer, both numbers or the refusal, and its choices and payoffs,
+//     as they stand in its outputs;
 //     strike_twice, COUNTS, PAYOFFS, player, strategy: both answers, from fresh survivors.
+use refusal::ListingResult;
 use refusal::UsizeResult;
 use survivors::Survivors;
 use test_lines::Case;
@@ -17,6 +20,7 @@ use test_print::floats;
 use test_print::number;
 use test_print::numbers;
 use test_print::text;
+use test_print::told_listing;
 use test_print::told_usize;
 ghost use mathlib.Core.Path.{_≡_};
 ghost use mathlib.Core.Bool.{cond};
@@ -25,13 +29,14 @@ ghost use Prim.Native.Nat.{ℕ, _+_};
 ghost use lib.ListN.{length};
 ghost use Rattle.game.specs.Finite.{sum};
 ghost use Rattle.game.specs.Game.{strategy as named};
-ghost use Rattle.refusal.specs.Told.{toldUsize, values, refused, tells, unlessRefused};
+ghost use Rattle.refusal.specs.Told.{toldUsize, toldListing, toldOf, values, refused, tells, unlessRefused};
 ghost use Rattle.payoff_tables.specs.Checks.{tableRefusal};
 ghost use Rattle.written_lists.specs.Outputs.{over};
 ghost use Rattle.equilibria.specs.Answers.{equilibriaAnswer, equilibriaChoices, equilibriaUtilities};
 ghost use Rattle.survivors.specs.Survivors.{freshOf, noSurvivors, markCount};
 ghost use Rattle.strikes.specs.Answers.{strikeAnswer, strikeLeaves, survivingAnswer, survivingChoices, survivingUtilities};
 ghost use Rattle.strike_chains.specs.Answers.{callsOf, chainFrom, acceptedOf};
+ghost use Rattle.strike_chains.specs.Demand3.{EqualOrHoldAll};
 
 // The most elements of a list of a line.
 const ROOM: usize = 24;
@@ -44,11 +49,11 @@ struct Struck {
 
 // How many strikes were accepted, the survivors, and the answers of the two listings: over the
 // survivors, and of the whole table.
-struct Listed {
+struct Listings {
     accepted: usize,
     survivors: Survivors,
-    surviving: UsizeResult,
-    whole: UsizeResult,
+    surviving: ListingResult,
+    whole: ListingResult,
 }
 
 // The answers to a strike and to the same one again.
@@ -99,9 +104,9 @@ fn strike_each(
 // Document 01's calls one after the other: `fresh`; `strike` for each that two lists name, each on
 // the survivors that the last one handed back; `surviving_equilibria` over these, into the first
 // two outputs; `equilibria`, into the other two. How many strikes were accepted and the survivors
-// are those of the list's calls, and each listing answers and writes what it has to. Where the
-// outputs have equal lengths, both listings answer and write the same: what the whole table's does.
-// Accepted strikes and marks make up all strategies.
+// are those of the list's calls, and each listing answers and writes what it has to. Both listings
+// tell the same total. Where the outputs have equal lengths or hold all, both tell and write the
+// same: what the whole table's does. Accepted strikes and marks make up all strategies.
 fn strike_and_list(
     counts: &[usize],
     payoffs: &[f64],
@@ -111,19 +116,20 @@ fn strike_and_list(
     left_utilities: &mut [f64],
     choices: &mut [usize],
     utilities: &mut [f64],
-) -> Listed
+) -> Listings
     ensures { λ r. ⌜ (let x = chainFrom (now (counts .entry)) (now (payoffs .entry))
         (unlessRefused (tableRefusal (now (counts .entry)) (now (payoffs .entry))) (freshOf (now (counts .entry))) noSurvivors)
         (callsOf (now (players .entry)) (now (strategies .entry))) in
         (r .accepted ≡ acceptedOf (x .answers)) × (r .survivors ≡ x .survivors)) ⌝ }
-    ensures { λ r. ⌜ toldUsize (r .surviving) ≡ survivingAnswer (now (counts .entry)) (now (payoffs .entry)) (r .survivors) (length (now («left_choices» .entry))) (length (now («left_utilities» .entry))) ⌝ }
+    ensures { λ r. ⌜ toldListing (r .surviving) ≡ survivingAnswer (now (counts .entry)) (now (payoffs .entry)) (r .survivors) (length (now («left_choices» .entry))) (length (now («left_utilities» .entry))) ⌝ }
     ensures { λ r. ⌜ now («left_choices» .exit) ≡ over (survivingChoices (now (counts .entry)) (now (payoffs .entry)) (r .survivors) (length (now («left_choices» .entry))) (length (now («left_utilities» .entry)))) (now («left_choices» .entry)) ⌝ }
     ensures { λ r. ⌜ now («left_utilities» .exit) ≡ over (survivingUtilities (now (counts .entry)) (now (payoffs .entry)) (r .survivors) (length (now («left_choices» .entry))) (length (now («left_utilities» .entry)))) (now («left_utilities» .entry)) ⌝ }
-    ensures { λ r. ⌜ toldUsize (r .whole) ≡ equilibriaAnswer (now (counts .entry)) (now (payoffs .entry)) (length (now (choices .entry))) (length (now (utilities .entry))) ⌝ }
+    ensures { λ r. ⌜ toldListing (r .whole) ≡ equilibriaAnswer (now (counts .entry)) (now (payoffs .entry)) (length (now (choices .entry))) (length (now (utilities .entry))) ⌝ }
     ensures { λ r. ⌜ now (choices .exit) ≡ over (equilibriaChoices (now (counts .entry)) (now (payoffs .entry)) (length (now (choices .entry))) (length (now (utilities .entry)))) (now (choices .entry)) ⌝ }
     ensures { λ r. ⌜ now (utilities .exit) ≡ over (equilibriaUtilities (now (counts .entry)) (now (payoffs .entry)) (length (now (choices .entry))) (length (now (utilities .entry)))) (now (utilities .entry)) ⌝ }
-    ensures { λ r. ⌜ (length (now («left_choices» .entry)) ≡ length (now (choices .entry)) → length (now («left_utilities» .entry)) ≡ length (now (utilities .entry))
-        → (toldUsize (r .surviving) ≡ toldUsize (r .whole))
+    ensures { λ r. ⌜ toldOf (λ l. l .total) (toldListing (r .surviving)) ≡ toldOf (λ l. l .total) (toldListing (r .whole)) ⌝ }
+    ensures { λ r. ⌜ (EqualOrHoldAll (now (counts .entry)) (now (payoffs .entry)) (length (now («left_choices» .entry))) (length (now («left_utilities» .entry))) (length (now (choices .entry))) (length (now (utilities .entry)))
+        → (toldListing (r .surviving) ≡ toldListing (r .whole))
         × (now («left_choices» .exit) ≡ over (equilibriaChoices (now (counts .entry)) (now (payoffs .entry)) (length (now (choices .entry))) (length (now (utilities .entry)))) (now («left_choices» .entry)))
         × (now («left_utilities» .exit) ≡ over (equilibriaUtilities (now (counts .entry)) (now (payoffs .entry)) (length (now (choices .entry))) (length (now (utilities .entry)))) (now («left_utilities» .entry)))) ⌝ }
     ensures { λ r. ⌜ (tableRefusal (now (counts .entry)) (now (payoffs .entry)) ≡ none → r .accepted + markCount (r .survivors) ≡ sum (now (counts .entry))) ⌝ }
@@ -141,7 +147,7 @@ fn strike_and_list(
         left_utilities,
     );
     let whole = pure_nash::equilibria(counts, payoffs, choices, utilities);
-    Listed {
+    Listings {
         accepted: accepted,
         survivors: left,
         surviving: surviving,
@@ -203,11 +209,11 @@ fn show(
     );
     number(listed.accepted);
     let surviving = listed.surviving;
-    told_usize(surviving);
+    told_listing(surviving);
     numbers(left_choices);
     floats(left_utilities);
     let whole = listed.whole;
-    told_usize(whole);
+    told_listing(whole);
     numbers(choices);
     floats(utilities);
 }

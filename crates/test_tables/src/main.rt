@@ -23,6 +23,7 @@ use test_print::output_floats;
 use test_print::refused;
 use test_print::text;
 use test_print::told_bool;
+use test_print::told_listing;
 use test_print::told_unit;
 use test_print::told_usize;
 use utility::Utility;
@@ -142,7 +143,7 @@ fn strictly_dominated_strategies(
 }
 
 fn equilibria(counts: &[usize], payoffs: &[f64], choices: &mut [usize], utilities: &mut [f64]) {
-    told_usize(pure_nash::equilibria(counts, payoffs, choices, utilities));
+    told_listing(pure_nash::equilibria(counts, payoffs, choices, utilities));
     output(choices);
     output_floats(utilities);
 }
@@ -168,8 +169,7 @@ fn make(r: Case, a: &mut [usize], b: &mut [usize], c: &mut [usize], x: &mut [f64
         12 => best_responses(a, x, r.first, b, c, y),
         13 => strictly_dominated_strategies(a, x, r.first, b, c),
         14 => told_bool(pure_nash::is_equilibrium(a, x, b)),
-        15 => told_usize(pure_nash::count_equilibria(a, x)),
-        16 => equilibria(a, x, c, y),
+        15 => equilibria(a, x, c, y),
         _ => text(b" cannot be read"),
     }
 }
@@ -211,7 +211,7 @@ fn run(
     text(b":");
     let r = read_case(
         line,
-        b"utility r4, is_finite r4, all_finite fx, compare r4r5, profile_count la, from_counts la, table_profile_count lafx, payoff_matrix lafx, offset lafxlb, payoff lafxlbn1, profile_payoffs lafxlb, advance_profile laeb, best_responses lafxn1lblcfy, strictly_dominated_strategies lafxn1lblc, is_equilibrium lafxlb, count_equilibria lafx, equilibria lafxlcfy",
+        b"utility r4, is_finite r4, all_finite fx, compare r4r5, profile_count la, from_counts la, table_profile_count lafx, payoff_matrix lafx, offset lafxlb, payoff lafxlbn1, profile_payoffs lafxlb, advance_profile laeb, best_responses lafxn1lblcfy, strictly_dominated_strategies lafxn1lblc, is_equilibrium lafxlb, equilibria lafxlcfy",
         words,
     );
     make_of(line, r, words, a, b, c, x, y);

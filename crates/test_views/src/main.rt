@@ -22,6 +22,7 @@ use test_print::output;
 use test_print::output_floats;
 use test_print::text;
 use test_print::told_bool;
+use test_print::told_listing;
 use test_print::told_unit;
 use test_print::told_usize;
 use test_survivors::none;
@@ -189,7 +190,7 @@ fn matrix_equilibria(
     utilities: &mut [f64],
 ) -> Survivors {
     let held = eight(counts);
-    told_usize(plain_views::matrix_equilibria(payoffs, players, held, choices, utilities));
+    told_listing(plain_views::matrix_equilibria(payoffs, players, held, choices, utilities));
     output(choices);
     output_floats(utilities);
     left

@@ -19,7 +19,7 @@ same-length-2 c = search needs
 
 returns : tie.Need-returns
 returns c =
-    let call = c .before .before .before .before .before .before .equilibria .ensures in
+    let call = c .before .before .before .before .before .before .before .equilibria .ensures in
     let told = both-into (λ (l : Listed). l .total) (λ (l : Listed). l .written) _ _ _ _ _ _ _ (call .0) (c .listing-into .ensures) in
     (told .0, (told .1 .0, (told .1 .1, call .1)))
 

@@ -28,7 +28,7 @@ same-length-2 c = search needs
 
 returns : tie.Need-returns
 returns c =
-    let k = c .before .before .before .before .before .before in
+    let k = c .before .before .before .before .before .before .before in
     let s = k .before .before .before in
     let a = s .before .before .before .before .before .args in
     let cs = a .counts .now in

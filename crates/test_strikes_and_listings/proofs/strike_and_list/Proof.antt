@@ -9,17 +9,21 @@ use lib.ListN.{length}
 use lib.Ieee.{Float}
 use Rattle.game.specs.Finite.{sum}
 use Rattle.game.specs.Game.{Strategy}
-use Rattle.refusal.specs.Told.{unlessRefused}
+use Rattle.refusal.specs.Told.{Told, toldOf, unlessRefused}
+use Rattle.refusal.specs.declared.Listed.{Listed}
 use Rattle.payoff_tables.specs.Checks.{tableRefusal}
 use Rattle.written_lists.specs.Outputs.{over}
 use Rattle.survivors.specs.declared.Survivors.{Survivors}
 use Rattle.survivors.specs.Survivors.{freshOf, noSurvivors, markCount}
-use Rattle.strikes.specs.Answers.{survivingAnswer, survivingChoices, survivingUtilities}
 use Rattle.strike_chains.specs.Answers.{callsOf, chainFrom, acceptedOf}
-use Rattle.strike_chains.specs.Demand3.{SameListing}
-use Rattle.test_strikes_and_listings.proofs.Calls.{same, counted}
+use Rattle.strike_chains.specs.Demand3.{SameTotal, SameListing, EqualOrHoldAll}
+use Rattle.test_strikes_and_listings.proofs.Calls.{same-total, same-listing, counted}
 use Rattle.test_strikes_and_listings.proofs.strike_and_list.Statement.{statement}
 use Rattle.test_strikes_and_listings.proofs.strike_and_list.Tie as tie
+
+-- the total that a listing tells
+abbrev total : Told Listed → Told ℕ
+total = toldOf (λ l. l .total)
 
 fresh-requires : tie.Need-fresh-requires
 fresh-requires c κs = search needs
@@ -82,8 +86,24 @@ module _ (c : tie.After-slice-known8) where
     struck .strike-each .ensures .1 ∙ ap (λ (u : Survivors). chainFrom cs ps u calls .survivors) (made .fresh .ensures .1),
   )
 
-  same-listing : (a b : ℕ) → SameListing cs ps v a b a b
-  same-listing a b = subst⁻¹ (λ (u : Survivors). SameListing cs ps u a b a b) (struck .strike-each .ensures .1) (same cs ps (made .fresh .result .survivors) (made .fresh .ensures .1) calls a b)
+  -- the lengths of the outputs: over the survivors, and of the whole table
+  abbrev a : ℕ
+  a = length (start .args .left-choices .now)
+
+  abbrev b : ℕ
+  b = length (start .args .left-utilities .now)
+
+  abbrev d : ℕ
+  d = length (start .args .choices .now)
+
+  abbrev e : ℕ
+  e = length (start .args .utilities .now)
+
+  total-here : SameTotal cs ps v a b d e
+  total-here = subst⁻¹ (λ (u : Survivors). SameTotal cs ps u a b d e) (struck .strike-each .ensures .1) (same-total cs ps (made .fresh .result .survivors) (made .fresh .ensures .1) calls a b d e)
+
+  listing-here : EqualOrHoldAll cs ps a b d e → SameListing cs ps v a b d e
+  listing-here h = subst⁻¹ (λ (u : Survivors). SameListing cs ps u a b d e) (struck .strike-each .ensures .1) (same-listing cs ps (made .fresh .result .survivors) (made .fresh .ensures .1) calls a b d e h)
 
   sum-is : tableRefusal cs ps ≡ none → struck .strike-each .result .accepted + markCount v ≡ sum cs
   sum-is t =
@@ -94,8 +114,7 @@ returns : tie.Need-returns
 returns c =
     let whole = listed c .equilibria .ensures in
     let left = over-left c .surviving-equilibria .ensures in
-    let s = start c in
-    let d = same-listing c (length (s .args .choices .now)) (length (s .args .utilities .now)) in (
+    let s = start c in (
       ran c,
       (
         left .0,
@@ -110,12 +129,15 @@ returns c =
                 (
                   whole .1 .1,
                   (
-                    λ h k. (
-                      left .0 ∙ ap₂ (survivingAnswer (cs c) (ps c) (v c)) h k ∙ d .answer ∙ sym (whole .0),
-                      left .1 .0 ∙ ap (λ (xs : List ℕ). over xs (s .args .left-choices .now)) (ap₂ (survivingChoices (cs c) (ps c) (v c)) h k ∙ d .choices),
-                      left .1 .1 ∙ ap (λ (xs : List Float). over xs (s .args .left-utilities .now)) (ap₂ (survivingUtilities (cs c) (ps c) (v c)) h k ∙ d .utilities),
+                    ap total (left .0) ∙ total-here c ∙ sym (ap total (whole .0)),
+                    (
+                      λ h. let same = listing-here c h in (
+                        left .0 ∙ same .answer ∙ sym (whole .0),
+                        left .1 .0 ∙ ap (λ (xs : List ℕ). over xs (s .args .left-choices .now)) (same .choices),
+                        left .1 .1 ∙ ap (λ (xs : List Float). over xs (s .args .left-utilities .now)) (same .utilities),
+                      ),
+                      sum-is c,
                     ),
-                    sum-is c,
                   ),
                 ),
               ),
