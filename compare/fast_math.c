@@ -13,14 +13,14 @@ int main(void) {
     const uint64_t bits[] = {0, 1};
     const size_t counts[] = {2}, first[] = {0};
     double payoffs[2], utilities[2] = {-1, -1};
-    size_t choices[2] = {9, 9}, number = 99;
+    size_t choices[2] = {9, 9}, total = 99, written = 99;
     uint8_t equilibrium = 7;
     memcpy(payoffs, bits, sizeof bits);
 
-    const bool answered = sigvanyor_equilibria(counts, 1, payoffs, 2, choices, 2, utilities, 2, &number) == 0 &&
+    const bool answered = sigvanyor_equilibria(counts, 1, payoffs, 2, choices, 2, utilities, 2, &total, &written) == 0 &&
                           sigvanyor_is_equilibrium(counts, 1, payoffs, 2, first, 1, &equilibrium) == 0;
-    const bool right = answered && number == 1 && choices[0] == 1 && choices[1] == 9 && equilibrium == 0;
-    const bool both = answered && number == 2 && choices[0] == 0 && choices[1] == 1 && equilibrium == 1;
+    const bool right = answered && total == 1 && written == 1 && choices[0] == 1 && choices[1] == 9 && equilibrium == 0;
+    const bool both = answered && total == 2 && written == 2 && choices[0] == 0 && choices[1] == 1 && equilibrium == 1;
     const bool changed = (_mm_getcsr() & (flush_to_zero | denormals_are_zero)) != 0;
 
     if (right)

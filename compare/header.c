@@ -42,8 +42,8 @@ static void limits(void) {
 static void solvers(void) {
     const size_t counts[] = {2, 2}, opponent = 0, profile[] = {1, 1}, other[] = {1, 0};
     const double payoffs[] = {2, 2, 0, 3, 3, 0, 1, 1};
-    size_t first[3] = {9, 9, 9}, second[2] = {9, 9}, number = 99;
-    double utilities[3] = {-1, -1, -1};
+    size_t first[2] = {9, 9}, second[2] = {9, 9}, number = 99;
+    double utilities[2] = {-1, -1};
     uint8_t equilibrium = 200;
 
     expect("best_responses", sigvanyor_best_responses(counts, 2, payoffs, 8, 0, &opponent, 0, first, 1, utilities, 1, &number) ==
@@ -67,22 +67,71 @@ static void solvers(void) {
     expect("is_equilibrium", sigvanyor_is_equilibrium(counts, 2, payoffs, 8, profile, 2, &equilibrium) == 0 && equilibrium == 1);
     expect("is_equilibrium", sigvanyor_is_equilibrium(counts, 2, payoffs, 8, other, 2, &equilibrium) == 0 && equilibrium == 0);
     number = 99;
-    expect("count_equilibria", sigvanyor_count_equilibria(counts, 2, payoffs, 7, &number) == SIGVANYOR_PAYOFF_COUNT);
-    expect("count_equilibria", number == 99);
-    expect("count_equilibria", sigvanyor_count_equilibria(counts, 2, payoffs, 8, &number) == 0 && number == 1);
-    expect("equilibria", sigvanyor_equilibria(counts, 2, payoffs, 8, first, 3, utilities, 1, &number) ==
-           SIGVANYOR_OUTPUT_TOO_SHORT);
-    expect("equilibria", utilities[0] == 3);
-    expect("equilibria", sigvanyor_equilibria(counts, 2, payoffs, 8, first, 3, utilities, 3, &number) == 0 && number == 1);
-    expect("equilibria", first[0] == 1 && first[1] == 1 && first[2] == 9);
-    expect("equilibria", utilities[0] == 1 && utilities[1] == 1 && utilities[2] == -1);
-    number = 99;
     expect("strictly_dominated_strategies",
            sigvanyor_strictly_dominated_strategies(counts, 2, payoffs, 8, 2, first, 2, second, 2, &number) == SIGVANYOR_INVALID_PLAYER);
     expect("strictly_dominated_strategies", number == 99);
     expect("strictly_dominated_strategies",
            sigvanyor_strictly_dominated_strategies(counts, 2, payoffs, 8, 1, first, 2, second, 2, &number) == 0 && number == 1);
-    expect("strictly_dominated_strategies", first[0] == 0 && first[1] == 1 && second[0] == 1 && second[1] == 9);
+    expect("strictly_dominated_strategies", first[0] == 0 && first[1] == 9 && second[0] == 1 && second[1] == 9);
+}
+
+/* The outputs of a listing of equilibria. */
+static struct {
+    size_t choices[9], total, written;
+    double utilities[9];
+} out;
+
+static void clear(void) {
+    for (int i = 0; i < 9; i++) {
+        out.choices[i] = 9;
+        out.utilities[i] = -1;
+    }
+    out.total = out.written = 99;
+}
+
+/* Whether these numbers were told since then, and nothing written past so many entries of 2 choices and 2 payoffs. */
+static bool told(size_t total, size_t written, size_t entries) {
+    bool holds = out.total == total && out.written == written;
+    for (size_t i = 2 * entries; i < 9; i++)
+        holds = holds && out.choices[i] == 9 && out.utilities[i] == -1;
+    return holds;
+}
+
+/* The listing of a game of 2 x 2 into outputs of these lengths. */
+static uint32_t list(const double *payoffs, size_t payoffs_len, size_t choices_len, size_t utilities_len) {
+    const size_t counts[] = {2, 2};
+    clear();
+    return sigvanyor_equilibria(counts, 2, payoffs, payoffs_len, out.choices, choices_len, out.utilities, utilities_len,
+                                &out.total, &out.written);
+}
+
+/* The game of `solvers`, then one in which all four profiles are equilibria, into outputs of all lengths. */
+static void listings(void) {
+    const double payoffs[] = {2, 2, 0, 3, 3, 0, 1, 1}, equal[] = {4, 5, 4, 5, 4, 5, 4, 5};
+
+    expect("equilibria", list(payoffs, 7, 9, 9) == SIGVANYOR_PAYOFF_COUNT && told(99, 99, 0));
+    expect("equilibria", list(payoffs, 8, 0, 0) == 0 && told(1, 0, 0));
+    expect("equilibria", list(payoffs, 8, 9, 9) == 0 && told(1, 1, 1));
+    expect("equilibria", out.choices[0] == 1 && out.choices[1] == 1 && out.utilities[0] == 1 && out.utilities[1] == 1);
+    for (size_t choices_len = 0; choices_len <= 9; choices_len++)
+        for (size_t utilities_len = 0; utilities_len <= 9; utilities_len++) {
+            const size_t held = (choices_len < utilities_len ? choices_len : utilities_len) / 2;
+            const size_t written = held < 4 ? held : 4;
+            expect("equilibria", list(equal, 8, choices_len, utilities_len) == 0 && told(4, written, written));
+            for (size_t i = 0; i < written; i++) {
+                expect("equilibria", out.choices[2 * i] == i / 2 && out.choices[2 * i + 1] == i % 2);
+                expect("equilibria", out.utilities[2 * i] == 4 && out.utilities[2 * i + 1] == 5);
+            }
+        }
+}
+
+/* The survivors' listing of the game of `solvers`, with this P in their record. */
+static uint32_t list_survivors(const sigvanyor_survivors *left, size_t players, size_t choices_len, size_t utilities_len) {
+    const size_t counts[] = {2, 2};
+    const double payoffs[] = {2, 2, 0, 3, 3, 0, 1, 1};
+    clear();
+    return sigvanyor_surviving_equilibria(counts, 2, payoffs, 8, players, left->counts, left->marks, out.choices, choices_len,
+                                          out.utilities, utilities_len, &out.total, &out.written);
 }
 
 /* Survivors of the game of `solvers`: each one's first strategy is struck, by a call each and by a list. */
@@ -91,9 +140,8 @@ static void strikes(void) {
     const double payoffs[] = {2, 2, 0, 3, 3, 0, 1, 1};
     const size_t second = SIGVANYOR_MAX_STRATEGIES;
     sigvanyor_survivors left = {9, {9}, {7}};
-    size_t dominator = 99, number = 99, choices[3] = {9, 9, 9}, by[5] = {9, 9, 9, 9, 9};
+    size_t dominator = 99, number = 99, by[5] = {9, 9, 9, 9, 9};
     uint32_t answers[5] = {9, 9, 9, 9, 9};
-    double utilities[3] = {-1, -1, -1};
 
     expect("fresh", sigvanyor_fresh(counts, 2, payoffs, 7, &left.players, left.counts, left.marks) == SIGVANYOR_PAYOFF_COUNT);
     expect("fresh", left.players == 9 && left.counts[0] == 9 && left.marks[0] == 7);
@@ -110,12 +158,11 @@ static void strikes(void) {
     expect("strike", left.marks[0] == 1 && left.marks[second + 1] == 200);
     expect("strike", sigvanyor_strike(counts, 2, payoffs, 8, 2, left.counts, left.marks, 0, 0, &dominator) == 0 && dominator == 1);
     expect("strike", left.marks[0] == 0 && left.marks[1] == 1 && left.marks[second] == 1 && left.marks[second + 1] == 1);
-    expect("surviving_equilibria", sigvanyor_surviving_equilibria(counts, 2, payoffs, 8, 2, left.counts, left.marks,
-                                                                  choices, 1, utilities, 3, &number) == SIGVANYOR_OUTPUT_TOO_SHORT);
-    expect("surviving_equilibria", choices[0] == 9);
-    expect("surviving_equilibria", sigvanyor_surviving_equilibria(counts, 2, payoffs, 8, 2, left.counts, left.marks,
-                                                                  choices, 3, utilities, 3, &number) == 0 && number == 1);
-    expect("surviving_equilibria", choices[0] == 1 && choices[1] == 1 && choices[2] == 9 && utilities[1] == 1 && utilities[2] == -1);
+    expect("surviving_equilibria", list_survivors(&left, 3, 9, 9) == SIGVANYOR_FOREIGN_SURVIVORS && told(99, 99, 0));
+    expect("surviving_equilibria", list_survivors(&left, 2, 0, 0) == 0 && told(1, 0, 0));
+    expect("surviving_equilibria", list_survivors(&left, 2, 1, 9) == 0 && told(1, 0, 0));
+    expect("surviving_equilibria", list_survivors(&left, 2, 9, 2) == 0 && told(1, 1, 1));
+    expect("surviving_equilibria", out.choices[0] == 1 && out.choices[1] == 1 && out.utilities[0] == 1 && out.utilities[1] == 1);
     expect("strikes", sigvanyor_strikes(counts, 2, payoffs, 8, players, 4, strategies, 4, answers, 3, by, 5, &number,
                                         &left.players, left.counts, left.marks) == SIGVANYOR_OUTPUT_TOO_SHORT);
     expect("strikes", answers[0] == 9 && left.marks[second] == 1);
@@ -202,10 +249,10 @@ static void rooms(void) {
     static size_t choices[CELLS], dominators[STRATEGIES];
     static sigvanyor_best_response responses[STRATEGIES];
     const size_t counts[] = {8, 8, 16, 16}, one[] = {STRATEGIES}, none[] = {0};
-    size_t number = 0;
+    size_t number = 0, total = 0;
 
-    expect("MAX_CELLS", sigvanyor_equilibria(counts, 4, payoffs, CELLS, choices, CELLS, utilities, CELLS, &number) == 0);
-    expect("MAX_CELLS", number == CELLS / 4);
+    expect("MAX_CELLS", sigvanyor_equilibria(counts, 4, payoffs, CELLS, choices, CELLS, utilities, CELLS, &total, &number) == 0);
+    expect("MAX_CELLS", total == CELLS / 4 && number == CELLS / 4);
     expect("MAX_STRATEGIES", sigvanyor_best_responses(one, 1, payoffs, STRATEGIES, 0, none, 0, choices, STRATEGIES,
                                                       utilities, STRATEGIES, &number) == 0 && number == STRATEGIES);
     expect("MAX_STRATEGIES", sigvanyor_best_response_records(one, 1, payoffs, STRATEGIES, 0, none, 0, responses, STRATEGIES,
@@ -268,6 +315,7 @@ int main(void) {
     expect("advance_profile", step[0] == 1 && step[1] == 0 && step[2] == 0 && step[3] == 7);
     expect("advance_profile", !sigvanyor_advance_profile(counts, 0, step) && step[0] == 1 && step[3] == 7);
     solvers();
+    listings();
     strikes();
     candidates();
     deposits();

@@ -26,7 +26,7 @@ static sigvanyor_survivors left;
 static uint8_t bytes[SIGVANYOR_MAX_FILE];
 static size_t bytes_len;
 
-static size_t number, first, space[SIGVANYOR_MAX_PLAYERS], step[SIGVANYOR_MAX_PLAYERS], choices[CELLS], dominators[CELLS];
+static size_t number, total, first, space[SIGVANYOR_MAX_PLAYERS], step[SIGVANYOR_MAX_PLAYERS], choices[CELLS], dominators[CELLS];
 static double utility, utilities[CELLS];
 static uint8_t truth;
 static uint32_t answers[STRIKES];
@@ -52,9 +52,14 @@ static void best_response_records(void) {
     sigvanyor_best_response_records(counts, players, payoffs, cells, 0, profile, players - 1, responses, MOST, &number);
 }
 static void is_equilibrium(void) { sigvanyor_is_equilibrium(counts, players, payoffs, cells, profile, players, &truth); }
-static void count_equilibria(void) { sigvanyor_count_equilibria(counts, players, payoffs, cells, &number); }
 static void equilibria(void) {
-    sigvanyor_equilibria(counts, players, payoffs, cells, choices, CELLS, utilities, CELLS, &number);
+    sigvanyor_equilibria(counts, players, payoffs, cells, choices, CELLS, utilities, CELLS, &total, &number);
+}
+static void equilibria_counted(void) {
+    sigvanyor_equilibria(counts, players, payoffs, cells, choices, 0, utilities, 0, &total, &number);
+}
+static void equilibria_cut(void) {
+    sigvanyor_equilibria(counts, players, payoffs, cells, choices, CELLS, utilities, players, &total, &number);
 }
 static void strictly_dominated_strategies(void) {
     sigvanyor_strictly_dominated_strategies(counts, players, payoffs, cells, 0, choices, MOST, dominators, MOST, &number);
@@ -65,7 +70,7 @@ static void strike(void) {
 }
 static void surviving_equilibria(void) {
     sigvanyor_surviving_equilibria(counts, players, payoffs, cells, left.players, left.counts, left.marks,
-                                   choices, CELLS, utilities, CELLS, &number);
+                                   choices, CELLS, utilities, CELLS, &total, &number);
 }
 static void strikes(void) {
     sigvanyor_strikes(counts, players, payoffs, cells, struck_players, STRIKES, struck_strategies, STRIKES,
@@ -111,8 +116,9 @@ static const call calls[] = {
     {"best_responses", best_responses, SIGVANYOR_STACK, COMPARES},
     {"best_response_records", best_response_records, SIGVANYOR_STACK, COMPARES},
     {"is_equilibrium", is_equilibrium, SIGVANYOR_STACK, COMPARES},
-    {"count_equilibria", count_equilibria, SIGVANYOR_STACK_EQUILIBRIA, COMPARES},
     {"equilibria", equilibria, SIGVANYOR_STACK_EQUILIBRIA, COMPARES},
+    {"equilibria into empty outputs", equilibria_counted, SIGVANYOR_STACK_EQUILIBRIA, COMPARES},
+    {"equilibria into a short output", equilibria_cut, SIGVANYOR_STACK_EQUILIBRIA, COMPARES},
     {"strictly_dominated_strategies", strictly_dominated_strategies, SIGVANYOR_STACK, COMPARES},
     {"fresh", fresh, SIGVANYOR_STACK, COMPARES},
     {"strike", strike, SIGVANYOR_STACK, COMPARES},

@@ -22,7 +22,8 @@
  *   SIGVANYOR_INVALID_STRATEGY           12  a choice is not below its player's count
  *   SIGVANYOR_NO_SURVIVING_STRATEGY      14  a strategy is not below its player's count, or struck
  *   SIGVANYOR_NOT_DOMINATED              15  no survivor strictly dominates the strategy
- *   SIGVANYOR_OUTPUT_TOO_SHORT           13  an output is shorter than the result needs
+ *   SIGVANYOR_OUTPUT_TOO_SHORT           13  an output is shorter than the result needs; the two
+ *                                            listings of equilibria write what fits instead
  * The reader of deposit files has an order of its own, see sigvanyor_read, and four more:
  *   SIGVANYOR_MISSING_WORD               17  the number of bytes is no multiple of 4, or a word
  *                                            that is due is absent
@@ -68,10 +69,10 @@
  * its bytes say. No call clears a flag. The processor's own flag of a denormal operand, for which C
  * has no name, may be raised too.
  *
- * Stack. sigvanyor_count_equilibria, sigvanyor_equilibria and sigvanyor_surviving_equilibria take
- * up to SIGVANYOR_STACK_EQUILIBRIA bytes of stack, also for a table of 2 x 2, and every other call
- * up to SIGVANYOR_STACK. That includes what the dynamic linker takes where the first call binds
- * memset or memcpy. Both numbers are measured and rounded up, not proved.
+ * Stack. sigvanyor_equilibria and sigvanyor_surviving_equilibria take up to
+ * SIGVANYOR_STACK_EQUILIBRIA bytes of stack, also for a table of 2 x 2, and every other call up to
+ * SIGVANYOR_STACK. That includes what the dynamic linker takes where the first call binds memset or
+ * memcpy. Both numbers are measured and rounded up, not proved.
  */
 #ifndef SIGVANYOR_H
 #define SIGVANYOR_H
@@ -88,7 +89,7 @@ extern "C" {
 
 /* The number of this interface. It goes up with each change of a C signature or of a limit. A
  * deposit file has an edition of its own. */
-enum { SIGVANYOR_INTERFACE = 1 };
+enum { SIGVANYOR_INTERFACE = 2 };
 
 /* Limits. */
 enum {
@@ -203,16 +204,16 @@ uint32_t sigvanyor_best_response_records(const size_t *counts, size_t counts_len
 uint32_t sigvanyor_is_equilibrium(const size_t *counts, size_t counts_len, const double *payoffs, size_t payoffs_len,
                                   const size_t *profile, size_t profile_len, uint8_t *equilibrium);
 
-/* How many profiles are equilibria, into `number`; or a refusal of the table. */
-uint32_t sigvanyor_count_equilibria(const size_t *counts, size_t counts_len, const double *payoffs, size_t payoffs_len,
-                                    size_t *number);
-
 /* Each equilibrium once, in profile order: its P choices into `choices`, its P payoffs, bits kept,
- * into `utilities`, and how many equilibria there are into `number`; or a refusal of the table or
- * SIGVANYOR_OUTPUT_TOO_SHORT. There are at most as many as profiles: choices_len and utilities_len
- * of profiles x P are always room enough, and so are SIGVANYOR_MAX_CELLS. */
+ * into `utilities`, as many from the first on as both outputs hold whole; how many equilibria there
+ * are into `total`, and how many are written into `written`; or a refusal of the table, and all
+ * four keep their contents. An equilibrium that only one output has room for is written into
+ * neither. There are at most as many as profiles: choices_len and utilities_len of profiles x P are
+ * always room enough for all, and so are SIGVANYOR_MAX_CELLS. With two empty outputs, whose
+ * pointers are not null either, the call counts the equilibria. */
 uint32_t sigvanyor_equilibria(const size_t *counts, size_t counts_len, const double *payoffs, size_t payoffs_len,
-                              size_t *choices, size_t choices_len, double *utilities, size_t utilities_len, size_t *number);
+                              size_t *choices, size_t choices_len, double *utilities, size_t utilities_len,
+                              size_t *total, size_t *written);
 
 /* The player's strategies that another of its strategies strictly dominates, ascending, into
  * `dominated`, the lowest dominator of each into `dominators`, and how many they are into `number`;
@@ -245,14 +246,14 @@ uint32_t sigvanyor_strike(const size_t *counts, size_t counts_len, const double 
                           uint8_t survivors_marks[SIGVANYOR_MAX_MARKS], size_t player, size_t strategy, size_t *dominator);
 
 /* As sigvanyor_equilibria, in profiles of survivors and with changes to survivors only; or a
- * refusal of the table, SIGVANYOR_FOREIGN_SURVIVORS or SIGVANYOR_OUTPUT_TOO_SHORT. The same sizes
- * are always room enough. After any strikes from fresh survivors the two calls return and write the
- * same, if their outputs have equal lengths or hold all. */
+ * refusal of the table or SIGVANYOR_FOREIGN_SURVIVORS. The same sizes are always room enough for
+ * all. After any strikes from fresh survivors the two calls tell the same `total`, whatever the
+ * lengths of their outputs; if these are equal or hold all, they also write the same. */
 uint32_t sigvanyor_surviving_equilibria(const size_t *counts, size_t counts_len, const double *payoffs, size_t payoffs_len,
                                         size_t survivors_players, const size_t survivors_counts[SIGVANYOR_MAX_PLAYERS],
                                         const uint8_t survivors_marks[SIGVANYOR_MAX_MARKS],
                                         size_t *choices, size_t choices_len, double *utilities, size_t utilities_len,
-                                        size_t *number);
+                                        size_t *total, size_t *written);
 
 /* A list of strikes from the table's fresh survivors, each on what the last one left. The i-th
  * names players[i] and strategies[i]. Its answer, 0 or SIGVANYOR_INVALID_PLAYER,
