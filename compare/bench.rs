@@ -6,7 +6,7 @@ use crate::cases::{self, Random};
 use crate::catalogue::{self, COUNTS};
 use crate::document::{ACTIONS, CELLS, PLAYERS, STRATEGIES};
 use crate::library::{
-    self, Answer, Bits, Claim, Entry, File, Held, Listing, Lists, Records, StrikeLists,
+    self, Answer, Bits, Claim, Entry, Equilibria, File, Held, Listing, Lists, Records, StrikeLists,
 };
 use crate::plain;
 use crate::report_bench;
@@ -144,23 +144,21 @@ fn solvers(kind: &str, counts: &[usize], payoffs: &[f64]) {
         let (counts, payoffs) = input();
         rust::table(counts, payoffs)
     };
+    for (call, length) in [
+        ("`equilibria`", payoffs.len()),
+        ("`equilibria`, empty outputs", 0),
+    ] {
+        let mut outputs = Equilibria::fresh([length; 2]);
+        row(
+            &names(call),
+            || {
+                let (counts, payoffs) = input();
+                library::equilibria_into(counts, payoffs, &mut outputs)
+            },
+            || table().map(|matrix| rust::equilibria(&matrix)),
+        );
+    }
     let mut lists = Lists::fresh([payoffs.len(); 2]);
-    row(
-        &names("`equilibria`"),
-        || {
-            let (counts, payoffs) = input();
-            library::equilibria(counts, payoffs, &mut lists)
-        },
-        || table().map(|matrix| rust::equilibria(&matrix)),
-    );
-    row(
-        &names("`count_equilibria`"),
-        || {
-            let (counts, payoffs) = input();
-            library::count_equilibria(counts, payoffs)
-        },
-        || table().map(|matrix| rust::equilibria(&matrix).len()),
-    );
     for (call, player) in [
         ("dominance, first player", 0),
         ("dominance, last player", counts.len() - 1),

@@ -8,6 +8,7 @@ use crate::document::{self, Ground, CELLS, PLAYERS, STRATEGIES};
 use crate::grids::{self, Grids};
 use crate::inputs;
 use crate::library::{self, Answer, Bits};
+use crate::listings;
 use crate::report::{self, Reports};
 use crate::rust::{self, Judged};
 use crate::solvers;
@@ -58,8 +59,7 @@ pub fn compare() {
         &[0, 1, 3, 6, 7],
         &[OUTSIDE, BOTH, panics],
     );
-    report(solvers.count, &[0, 1, 3, 6, 7], &table);
-    report(solvers.equilibria, &[0, 1, 3, 6, 7], &lists);
+    report(solvers.equilibria, &listings::with_rust(), &table);
     report(solvers.dominated, &[0, 1, 3, 6, 7, 8], &lists);
     let candidates = candidates::candidates();
     let reports = report::reports();
@@ -98,6 +98,7 @@ pub fn compare() {
 /// The calls on survivors.
 fn strike_calls(strikes: Strikes, report: &mut impl FnMut(Tally, &[u32], &[(Judge, &[u32])])) {
     strikes.report_answers();
+    strikes.report_beside();
     report(strikes.fresh, &[0, 1, 3, 6, 7], &[OUTSIDE, BOTH]);
     let refused = [&Strikes::GONE[..], &Strikes::FOREIGN].concat();
     let unasked: (Judge, &[u32]) = (Judge::Unasked, &refused);
@@ -109,8 +110,8 @@ fn strike_calls(strikes: Strikes, report: &mut impl FnMut(Tally, &[u32], &[(Judg
     let unasked: (Judge, &[u32]) = (Judge::Unasked, &Strikes::FOREIGN);
     report(
         strikes.surviving,
-        &[0, 1, 3, 6, 7],
-        &[OUTSIDE, BOTH, SHORT, unasked],
+        &listings::with_rust(),
+        &[OUTSIDE, BOTH, unasked],
     );
     report(strikes.strikes, &[0, 1, 3, 6, 7], &[OUTSIDE, BOTH, SHORT]);
 }

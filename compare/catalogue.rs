@@ -45,7 +45,7 @@ const GROUNDS: [&str; Ground::Zeros as usize + 1] = [
 pub const TITLES: [&str; 1 + document::TABLE_FAULTS.len() + GROUNDS.len()] = titles();
 
 const fn titles() -> [&'static str; 1 + document::TABLE_FAULTS.len() + GROUNDS.len()] {
-    let mut all = tally::after_statuses(&GROUNDS);
+    let mut all = tally::after(&tally::STATUSES, &GROUNDS);
     all[0] = "strictly ranked:";
     all
 }

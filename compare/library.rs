@@ -95,13 +95,6 @@ extern "C" {
         profile_len: usize,
         equilibrium: *mut u8,
     ) -> u32;
-    fn sigvanyor_count_equilibria(
-        counts: *const usize,
-        counts_len: usize,
-        payoffs: *const f64,
-        payoffs_len: usize,
-        number: *mut usize,
-    ) -> u32;
     fn sigvanyor_equilibria(
         counts: *const usize,
         counts_len: usize,
@@ -111,7 +104,8 @@ extern "C" {
         choices_len: usize,
         utilities: *mut f64,
         utilities_len: usize,
-        number: *mut usize,
+        total: *mut usize,
+        written: *mut usize,
     ) -> u32;
     fn sigvanyor_strictly_dominated_strategies(
         counts: *const usize,
@@ -158,7 +152,8 @@ extern "C" {
         choices_len: usize,
         utilities: *mut f64,
         utilities_len: usize,
-        number: *mut usize,
+        total: *mut usize,
+        written: *mut usize,
     ) -> u32;
     fn sigvanyor_strikes(
         counts: *const usize,
@@ -252,6 +247,15 @@ pub enum Answer<T> {
     Accepted(T),
     Refused(u32),
     Broken(&'static str),
+}
+
+impl<T> Answer<T> {
+    pub fn accepted(self) -> Option<T> {
+        match self {
+            Self::Accepted(value) => Some(value),
+            _ => None,
+        }
+    }
 }
 
 impl<T> From<Result<T, u32>> for Answer<T> {
@@ -351,6 +355,13 @@ impl<T> Listing<T> {
     pub fn needed(&self) -> [usize; 2] {
         [self.first.len(), self.second.len()]
     }
+}
+
+/// What a listing of equilibria is told as: how many there are, and those of them that are written.
+#[derive(Debug, Clone, PartialEq)]
+pub struct Listed {
+    pub total: usize,
+    pub written: Listing<Bits>,
 }
 
 /// NaNs of several payloads. As a usize each is larger than any number that a call answers.
@@ -569,6 +580,35 @@ impl Lists {
     }
 }
 
+/// The outputs of a listing of equilibria: how many there are, and those of a list of the ones that are written.
+pub struct Equilibria {
+    total: Output<1>,
+    written: Lists,
+}
+
+impl Equilibria {
+    pub fn fresh(lengths: [usize; 2]) -> Self {
+        Self {
+            total: Output::fresh(),
+            written: Lists::fresh(lengths),
+        }
+    }
+
+    /// The answer of a call that wrote here, on a table of so many players.
+    fn answer(&self, status: u32, players: usize) -> Answer<Listed> {
+        let written = match self.written.answer(status, players, Bits) {
+            Answer::Accepted(written) => Some(written),
+            Answer::Refused(_) => None,
+            Answer::Broken(how) => return Answer::Broken(how),
+        };
+        let total = &self.total;
+        answer(status, total.guarded(), total.untouched(), || Listed {
+            total: total.numbers()[0],
+            written: written.unwrap(),
+        })
+    }
+}
+
 /// A record of a list of best responses, as C has it.
 #[allow(dead_code)]
 #[repr(C)]
@@ -728,12 +768,13 @@ fn answer_space(status: u32, players: Output<1>, counts: Output<PLAYERS>) -> Ans
 }
 
 /// A call of the library: sizes, each slice as a pointer and a length, perhaps a player and slices
-/// after it, then the other arguments, then the outputs of a list. The slices are only read, which
-/// is looked at in some cases; survivors that are only read are compared where they are held.
+/// after it, then the other arguments, then the outputs of a list, before whose number a total may
+/// come. The slices are only read, which is looked at in some cases; survivors that are only read
+/// are compared where they are held.
 macro_rules! call {
     (
         $name:ident, [$($slice:ident),*] $($player:ident [$($after:ident),*])? $(, $rest:expr)*;
-        $lists:ident
+        $lists:expr $(, $total:expr)?
     ) => {
         call!(
             $name,
@@ -743,6 +784,7 @@ macro_rules! call {
             $lists.first.len(),
             $lists.second.place(),
             $lists.second.len(),
+            $($total.place(),)?
             $lists.number.place()
         )
     };
@@ -908,18 +950,15 @@ pub fn is_equilibrium(counts: &[usize], payoffs: &[f64], profile: &[usize]) -> A
     }
 }
 
-pub fn count_equilibria(counts: &[usize], payoffs: &[f64]) -> Answer<usize> {
-    let mut number = Output::<1>::fresh();
-    let status = call!(
-        sigvanyor_count_equilibria,
-        [counts, payoffs],
-        number.place()
-    );
-    answer_number(status, number)
+pub fn equilibria_into(counts: &[usize], payoffs: &[f64], outputs: &mut Equilibria) -> u32 {
+    let Equilibria { total, written } = outputs;
+    call!(sigvanyor_equilibria, [counts, payoffs]; written, total)
 }
 
-pub fn equilibria(counts: &[usize], payoffs: &[f64], lists: &mut Lists) -> u32 {
-    call!(sigvanyor_equilibria, [counts, payoffs]; lists)
+pub fn equilibria(counts: &[usize], payoffs: &[f64], lengths: [usize; 2]) -> Answer<Listed> {
+    let mut outputs = Equilibria::fresh(lengths);
+    let status = equilibria_into(counts, payoffs, &mut outputs);
+    outputs.answer(status, counts.len())
 }
 
 pub fn strictly_dominated_strategies(
@@ -1018,21 +1057,22 @@ pub fn surviving_equilibria(
     counts: &[usize],
     payoffs: &[f64],
     survivors: &Survivors,
-    lists: &mut Lists,
-) -> Answer<Listing<Bits>> {
+    lengths: [usize; 2],
+) -> Answer<Listed> {
     let mut held = Held::of(survivors);
+    let mut outputs = Equilibria::fresh(lengths);
     let status = call!(
         sigvanyor_surviving_equilibria,
         [counts, payoffs],
         held.players(),
         held.counts.place(),
         held.marks.place();
-        lists
+        outputs.written, outputs.total
     );
     if !held.guarded() || held.survivors() != *survivors {
         return Answer::Broken("wrote the survivors that it reads");
     }
-    lists.answer(status, counts.len(), Bits)
+    outputs.answer(status, counts.len())
 }
 
 /// The outputs of a list of strikes: the answers and the dominators of any lengths, and the survivors.

@@ -21,6 +21,7 @@ mod grid_cases;
 mod grids;
 mod inputs;
 mod library;
+mod listings;
 mod plain;
 mod record;
 mod report;

@@ -9,6 +9,7 @@ use crate::candidate_record;
 use crate::cases::{self, Random};
 use crate::document;
 use crate::library::{Answer, Bits, Listing, Space};
+use crate::listings;
 use crate::rust::{self, Judged};
 use crate::solvers::{self, Room};
 use crate::tally::{end, sure, Judge};
@@ -164,7 +165,8 @@ impl Lines {
         }
     }
 
-    /// All calls from best_responses on for a case.
+    /// All calls from best_responses on for a case; the equilibria also into outputs of other
+    /// lengths, drawn by the number of the lines so far.
     fn solvers(&mut self, case: &Case) {
         let judged = &Judged::new(case.counts, case.payoffs);
         let player = || numbers(&[case.player]);
@@ -175,9 +177,12 @@ impl Lines {
         let rest = [numbers(case.profile)];
         self.on_table("is_equilibrium", judged, rest, told(&answer, yes_or_no));
         let listing = judged.equilibria();
-        let count = told(&rust::count(&listing), number);
-        self.on_table("count_equilibria", judged, [], count);
-        self.listing("equilibria", judged, vec![], case.room, &listing, printed);
+        let all = listing.as_ref().map_err(|refusal| *refusal);
+        let pairs = listings::pairs(case.counts.len(), listings::total(all), &[]);
+        let other = Random(self.0.len() as u64).pick(&pairs);
+        for lengths in [other, solvers::lengths(&listing, case.room)] {
+            self.equilibria(judged, all, lengths);
+        }
         let listing = judged.dominated(case.player);
         self.listing(
             "strictly_dominated_strategies",
@@ -201,6 +206,22 @@ impl Lines {
         self.push(call, table.into_iter().chain(rest).collect(), told);
     }
 
+    /// The equilibria into outputs of these lengths, given all of them.
+    fn equilibria(
+        &mut self,
+        judged: &Judged,
+        all: Result<&Listing<Bits>, u32>,
+        lengths: [usize; 2],
+    ) {
+        let (_, answer) = listings::answer(all, judged.counts.len(), lengths);
+        let told = told(&answer, |listed| {
+            number(&listed.total) + &number(&listed.written.number)
+        });
+        let written = answer.accepted().map(|listed| listed.written);
+        let told = told + &outputs(written, lengths, printed);
+        self.on_table("equilibria", judged, lengths.map(Argument::Output), told);
+    }
+
     fn listing<T: Clone>(
         &mut self,
         call: &'static str,
@@ -213,14 +234,9 @@ impl Lines {
         let lengths = solvers::lengths(listing, room);
         let (_, answer) = judged.lent(listing, lengths);
         let told = told(&answer, |listing| number(&listing.number));
-        let (first, second) = match answer {
-            Answer::Accepted(listing) => (listing.first, listing.second),
-            _ => (Vec::new(), Vec::new()),
-        };
-        let first = output(&first, lengths[0], number);
-        let second = output(&second, lengths[1], element);
+        let told = told + &outputs(answer.accepted(), lengths, element);
         let rest = rest.into_iter().chain(lengths.map(Argument::Output));
-        self.on_table(call, judged, rest, told + &first + &second);
+        self.on_table(call, judged, rest, told);
     }
 }
 
@@ -297,6 +313,17 @@ fn told_space(answer: Answer<Space>) -> String {
     };
     let counts: String = counts.iter().map(number).collect();
     format!("{told}, players {players}, counts{counts}")
+}
+
+/// Both outputs of a list afterwards, into which nothing is written where it is refused.
+fn outputs<T>(
+    listing: Option<Listing<T>>,
+    lengths: [usize; 2],
+    element: impl Fn(&T) -> String,
+) -> String {
+    let listing = listing.map(|listing| (listing.first, listing.second));
+    let (first, second) = listing.unwrap_or_default();
+    output(&first, lengths[0], number) + &output(&second, lengths[1], element)
 }
 
 /// An output afterwards: what was written, then the rest as it was.

@@ -76,12 +76,6 @@ pub fn dominated(matrix: &PayoffMatrix, player: usize) -> Result<Vec<DominatedSt
     StrictDominanceSolver::strictly_dominated_strategies(matrix, player).map_err(number)
 }
 
-/// The length of a list.
-pub fn count<T>(listing: &Result<Listing<T>, u32>) -> Answer<usize> {
-    let number = listing.as_ref().map(|listing| listing.number);
-    number.map_err(|refusal| *refusal).into()
-}
-
 /// A table, or its refusal, and who gave it.
 pub struct Judged<'a> {
     pub counts: &'a [usize],
@@ -186,8 +180,8 @@ impl<'a> Judged<'a> {
         })
     }
 
-    /// The answer of a listing into outputs of these lengths, and who gives it: that an output is too short is
-    /// document 01's to say.
+    /// The answer of a list into outputs of these lengths, unless it is one of equilibria, and who gives it: that an
+    /// output is too short is document 01's to say.
     pub fn lent<T: Clone>(
         &self,
         listing: &Result<Listing<T>, u32>,

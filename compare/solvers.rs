@@ -3,7 +3,9 @@
 use crate::cases::{self, Filling, Random};
 use crate::document::{self, CELLS, PLAYERS, STRATEGIES};
 use crate::library::{self, Answer, Bits, Listing, Lists, Records};
-use crate::rust::{self, Judged};
+use crate::listings;
+use crate::rust::Judged;
+use crate::strikes::LEAST;
 use crate::tally::{floats, numbers, Judge, Tally};
 
 /// The lengths of two outputs, each by how much longer it is than the list needs.
@@ -30,9 +32,10 @@ pub struct Solvers {
     pub responses: Tally,
     pub records: Tally,
     pub equilibrium: Tally,
-    pub count: Tally,
     pub equilibria: Tally,
     pub dominated: Tally,
+    /// For the lengths of the outputs of equilibria.
+    lengths: Random,
 }
 
 impl Solvers {
@@ -41,7 +44,7 @@ impl Solvers {
         let listing = judged.best_responses(player, opponents);
         let input = || numbers("player", &[player]) + &numbers("opponents", opponents);
         let (counts, payoffs) = (judged.counts, judged.payoffs);
-        listings(
+        lists(
             &mut self.responses,
             judged,
             input,
@@ -81,31 +84,26 @@ impl Solvers {
         );
     }
 
-    /// The count and the list, which the Rust gives as one; the list is handed back.
-    fn equilibria(&mut self, judged: &Judged, rooms: &[Room]) -> Vec<usize> {
+    /// The listing into outputs of so many pairs of lengths, or of each; the list is handed back.
+    fn equilibria(&mut self, judged: &Judged, most: usize) -> Vec<usize> {
         let listing = judged.equilibria();
-        self.count.compare(
-            judged.by,
-            || table(judged),
-            rust::count(&listing),
-            library::count_equilibria(judged.counts, judged.payoffs),
-        );
-        listings(
-            &mut self.equilibria,
-            judged,
-            String::new,
-            &listing,
-            rooms,
-            |lists| {
-                let status = library::equilibria(judged.counts, judged.payoffs, lists);
-                lists.answer(status, judged.counts.len(), Bits)
-            },
-        );
+        let told = listing.as_ref().map_err(|refusal| *refusal);
+        let players = judged.counts.len();
+        for lengths in listings::drawn(&mut self.lengths, players, listings::total(told), most) {
+            let (ground, judge) = listings::answer(told, players, lengths);
+            self.equilibria.compare_as(
+                ground,
+                judged.by,
+                || table(judged) + &numbers("lengths", &lengths),
+                judge,
+                library::equilibria(judged.counts, judged.payoffs, lengths),
+            );
+        }
         listing.map_or_else(|_| Vec::new(), |listing| listing.first)
     }
 
     fn dominated(&mut self, judged: &Judged, player: usize, rooms: &[Room]) {
-        listings(
+        lists(
             &mut self.dominated,
             judged,
             || numbers("player", &[player]),
@@ -134,7 +132,7 @@ pub fn lengthened(needed: [usize; 2], room: Room) -> [usize; 2] {
 }
 
 /// One list into outputs of each of the lengths.
-fn listings<T: Clone + std::fmt::Debug + PartialEq>(
+fn lists<T: Clone + std::fmt::Debug + PartialEq>(
     tally: &mut Tally,
     judged: &Judged,
     input: impl Fn() -> String,
@@ -155,9 +153,9 @@ pub fn solvers() -> Solvers {
         responses: Tally::new("best_responses"),
         records: Tally::new("best_response_records"),
         equilibrium: Tally::new("is_equilibrium"),
-        count: Tally::new("count_equilibria"),
-        equilibria: Tally::new("equilibria"),
+        equilibria: Tally::of("equilibria", &listings::GROUNDS, LEAST),
         dominated: Tally::new("strictly_dominated_strategies"),
+        lengths: Random(17),
     };
     let mut random = Random(9);
     for _ in 0..6 {
@@ -168,11 +166,11 @@ pub fn solvers() -> Solvers {
     for _ in 0..100_000 {
         junk(&mut solvers, &mut random);
     }
-    for filling in cases::small_fillings(8)
-        .iter()
-        .chain(&cases::larger_fillings())
-    {
-        every_filling(&mut solvers, &mut random, filling);
+    for filling in cases::small_fillings(8) {
+        every_filling(&mut solvers, &mut random, &filling, listings::EVERY);
+    }
+    for filling in cases::larger_fillings() {
+        every_filling(&mut solvers, &mut random, &filling, listings::SOME);
     }
     let every = [&ENOUGH[..], &SHORT].concat();
     for shape in cases::large_shapes() {
@@ -188,8 +186,9 @@ pub fn solvers() -> Solvers {
     solvers
 }
 
-/// Every table of a filling, with every player, every choice of the others and every profile, and some to refuse.
-fn every_filling(solvers: &mut Solvers, random: &mut Random, filling: &Filling) {
+/// Every table of a filling, with every player, every choice of the others and every profile, so many pairs of lengths
+/// for the equilibria, and some to refuse.
+fn every_filling(solvers: &mut Solvers, random: &mut Random, filling: &Filling, most: usize) {
     let counts = &filling.counts[..];
     let players = counts.len();
     let profiles: Vec<Vec<usize>> = cases::profiles(counts).collect();
@@ -211,7 +210,7 @@ fn every_filling(solvers: &mut Solvers, random: &mut Random, filling: &Filling) 
         for profile in &profiles {
             solvers.equilibrium(&judged, profile);
         }
-        solvers.equilibria(&judged, &rooms);
+        solvers.equilibria(&judged, most);
         for player in 0..players {
             solvers.dominated(&judged, player, &rooms);
         }
@@ -253,7 +252,7 @@ fn random_table(
 ) {
     let payoffs = random.payoffs(counts);
     let judged = Judged::new(counts, &payoffs);
-    let choices = solvers.equilibria(&judged, rooms);
+    let choices = solvers.equilibria(&judged, rooms.len());
     let found: Vec<&[usize]> = choices.chunks(counts.len()).collect();
     let chosen = random.below(counts.len());
     for player in [0, counts.len() - 1, chosen] {
@@ -305,7 +304,7 @@ fn faulty(solvers: &mut Solvers, random: &mut Random, faults: u32) {
     let judged = Judged::new(&counts, &payoffs);
     solvers.responses(&judged, player, &opponents, &[room]);
     solvers.equilibrium(&judged, &profile);
-    solvers.equilibria(&judged, &[room]);
+    solvers.equilibria(&judged, 1);
     solvers.dominated(&judged, player, &[room]);
 }
 
@@ -404,6 +403,6 @@ fn junk(solvers: &mut Solvers, random: &mut Random) {
     solvers.responses(&judged, player, &choices, &room);
     solvers.responses(&judged, player, &choices[choices.len().min(1)..], &room);
     solvers.equilibrium(&judged, &choices);
-    solvers.equilibria(&judged, &room);
+    solvers.equilibria(&judged, room.len());
     solvers.dominated(&judged, player, &room);
 }

@@ -3,6 +3,7 @@
 use crate::cases::{self, Filling, Random};
 use crate::document::{self, CELLS, PLAYERS, STRATEGIES};
 use crate::library::{Survivors, MARKS};
+use crate::listings::{EVERY, SOME};
 use crate::solvers::{self, Room, ENOUGH, SHORT};
 use crate::strikes::{Case, State, Strikes, Table, LARGE};
 use crate::survivors;
@@ -71,8 +72,9 @@ fn known(strikes: &mut Strikes) {
     sure(stands, "a game whose strikes are known has others");
 }
 
-/// One table in so many of a filling: the fresh survivors, every strike from them and one of a strategy past each
-/// count, the listing after each, for some a full elimination in two orders; of the smallest every list of two strikes.
+/// One table in so many of a filling, or each: the fresh survivors and their listing, of each table into outputs of
+/// every pair of lengths; every strike from them and one of a strategy past each count, the listing after each; for
+/// some a full elimination in two orders; of the smallest every list of two strikes.
 fn every_table(strikes: &mut Strikes, random: &mut Random, filling: &Filling, sample: usize) {
     let counts = &filling.counts[..];
     let named: Vec<[usize; 2]> = (0..counts.len())
@@ -85,17 +87,16 @@ fn every_table(strikes: &mut Strikes, random: &mut Random, filling: &Filling, sa
         filling.fill(random, &mut payoffs, number);
         number += 1 + random.below(2 * sample - 1);
         let table = Table::new(counts, &payoffs);
-        let rooms = [random.pick(&ENOUGH), random.pick(&SHORT)];
         strikes.fresh(&table);
         let fresh = table.fresh().case();
-        strikes.listing(&fresh, &rooms);
+        strikes.listing(&fresh, [SOME, EVERY][usize::from(sample == 1)]);
         for [player, strategy] in &named {
             if let Some(after) = strikes.strike(&fresh, *player, *strategy) {
-                strikes.listing(&after.case(), &rooms[..1]);
+                strikes.listing(&after.case(), 2);
             }
         }
         if smallest {
-            twos(strikes, &table, rooms[0]);
+            twos(strikes, &table, random.pick(&ENOUGH));
         }
         if random.below(8) == 0 {
             orders(strikes, random, &table);
@@ -224,8 +225,7 @@ fn eliminate<'t, 'a>(
 fn listed(strikes: &mut Strikes, random: &mut Random, case: &Case) {
     let cells = document::cells(case.counts()) as usize;
     if random.below(1 + cells / 512) == 0 {
-        let rooms = [random.pick(&ENOUGH), random.pick(&SHORT)];
-        strikes.listing(case, &rooms[..1 + random.below(2)]);
+        strikes.listing(case, 2);
     }
 }
 
@@ -357,7 +357,7 @@ fn foreign(strikes: &mut Strikes, random: &mut Random, table: &Table, causes: &[
     strikes.strike(&case, player, random.below(counts[player]));
     let [player, strategy] = wild(random, counts);
     strikes.strike(&case, player, strategy);
-    strikes.listing(&case, &[random.pick(&ENOUGH), random.pick(&SHORT)]);
+    strikes.listing(&case, 2);
 }
 
 /// Makes survivors that are not foreign to the counts so by one cause alone; false where no player can have it.
@@ -444,7 +444,7 @@ fn faulty(strikes: &mut Strikes, random: &mut Random, faults: u32) {
     let case = table.made(survivors);
     strikes.fresh(&table);
     strikes.strike(&case, player, strategy);
-    strikes.listing(&case, &room);
+    strikes.listing(&case, 1);
     strikes.list(&table, [&[player, 0], &[strategy, 0]], &room);
 }
 
@@ -535,7 +535,7 @@ fn junk(strikes: &mut Strikes, random: &mut Random) {
     };
     let rooms = [random.pick(&ENOUGH), random.pick(&SHORT)];
     strikes.strike(&case, player, strategy);
-    strikes.listing(&case, &rooms);
+    strikes.listing(&case, rooms.len());
     let players: Vec<usize> = numbers.iter().map(|_| random.below(4)).collect();
     strikes.list(&table, [&players, &numbers], &rooms);
     strikes.list(&table, [&numbers, &players[players.len().min(1)..]], &rooms);

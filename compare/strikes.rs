@@ -2,14 +2,16 @@
 //! is left: a strike by its list of dominated strategies, a listing by its equilibria, the numbers put back to the
 //! whole table's.
 
+use crate::cases::Random;
 use crate::document;
-use crate::library::{self, Answer, Bits, Listing, Lists, Struck, Survivors};
+use crate::library::{self, Answer, Bits, Listed, Listing, Struck, Survivors};
+use crate::listings;
 use crate::reference::PayoffMatrix;
 use crate::rust::{self, Judged};
 use crate::solvers::{self, Room};
 use crate::strike_cases;
 use crate::survivors::{self, Game, Left};
-use crate::tally::{agreed, numbers, sure, Judge, Tally};
+use crate::tally::{agreed, end, numbers, sure, Judge, Tally};
 use std::cell::OnceCell;
 
 /// The cases that each ground of an answer has at least.
@@ -209,6 +211,14 @@ impl<'t, 'a> Case<'t, 'a> {
         self.table.judged.counts
     }
 
+    /// The library's listing into outputs of these lengths.
+    fn listed(&self, lengths: [usize; 2]) -> Answer<Listed> {
+        let Judged {
+            counts, payoffs, ..
+        } = self.table.judged;
+        library::surviving_equilibria(counts, payoffs, &self.survivors, lengths)
+    }
+
     fn input(&self) -> String {
         solvers::table(&self.table.judged) + &format!("  survivors {:?}\n", self.survivors)
     }
@@ -221,6 +231,10 @@ pub struct Strikes {
     pub strikes: Tally,
     /// How often each answer is told in a list of strikes.
     answers: [usize; document::NOT_DOMINATED as usize + 1],
+    /// How often the two listings were held to each other, by their lengths.
+    beside: [usize; Strikes::BESIDE.len()],
+    /// For the lengths of the outputs of equilibria.
+    lengths: Random,
 }
 
 impl Strikes {
@@ -279,34 +293,72 @@ impl Strikes {
         after
     }
 
-    /// The survivors' listing into outputs of each of the lengths.
-    pub fn listing(&mut self, case: &Case, rooms: &[Room]) {
+    /// The survivors' listing into outputs of so many pairs of lengths, or of each; and after strikes from fresh
+    /// survivors beside the whole table's.
+    pub fn listing(&mut self, case: &Case, most: usize) {
         let judged = &case.table.judged;
-        let listing = match &case.standing {
-            Err((_, ground)) => Err(survivors::refusal(*ground)),
-            Ok(state) => Ok(state.listing().clone()),
+        let (by, listing) = match &case.standing {
+            Err((by, ground)) => (*by, Err(*ground)),
+            Ok(state) => (judged.by, Ok(state.listing())),
         };
-        for room in rooms {
-            let lengths = solvers::lengths(&listing, *room);
-            let (by, ground, judge) = match (&case.standing, judged.lent(&listing, lengths)) {
-                (Err((by, ground)), (_, judge)) => (*by, *ground, judge),
-                (Ok(_), (Judge::TooShort, judge)) => (Judge::TooShort, document::SHORT, judge),
-                (Ok(_), (by, judge)) => (by, 0, judge),
-            };
-            let mut lists = Lists::fresh(lengths);
-            self.surviving.compare_as(
-                ground,
-                by,
-                || case.input() + &numbers("lengths", &lengths),
-                judge,
-                library::surviving_equilibria(
-                    judged.counts,
-                    judged.payoffs,
-                    &case.survivors,
-                    &mut lists,
-                ),
-            );
+        let players = judged.counts.len();
+        let pairs = listings::drawn(&mut self.lengths, players, listings::total(listing), most);
+        for lengths in &pairs {
+            let (ground, judge) = listings::answer(listing, players, *lengths);
+            let input = || case.input() + &numbers("lengths", lengths);
+            let library = case.listed(*lengths);
+            self.surviving.compare_as(ground, by, input, judge, library);
         }
+        if case.standing.as_ref().is_ok_and(|state| state.reached) {
+            self.beside(case, &pairs);
+        }
+    }
+
+    const BESIDE: [&'static str; 4] = [
+        "equal lengths, all written:",
+        "equal lengths, not all written:",
+        "other lengths, all written by both:",
+        "other lengths, not all written by both:",
+    ];
+
+    /// The library's two listings, into outputs of equal lengths and of others that are drawn: the totals are the same,
+    /// and what is written where the lengths are equal or both wrote all.
+    fn beside(&mut self, case: &Case, pairs: &[[usize; 2]]) {
+        let Judged {
+            counts, payoffs, ..
+        } = case.table.judged;
+        let lengths = self.lengths.pick(pairs);
+        let here = case.listed(lengths).accepted().unwrap();
+        for others in [lengths, self.lengths.pick(pairs)] {
+            let Some(there) = library::equilibria(counts, payoffs, others).accepted() else {
+                end("the listing of a table that is accepted is refused");
+            };
+            let all = [&here, &there].map(|listed| listed.written.number == listed.total);
+            let (equal, all) = (lengths == others, all == [true; 2]);
+            if here.total != there.total || ((equal || all) && here != there) {
+                let input = case.input() + &numbers("lengths", &[lengths, others].concat());
+                end(&format!(
+                    "the two listings differ\n{input}  {here:?}\n  {there:?}"
+                ));
+            }
+            self.beside[2 * usize::from(!equal) + usize::from(!all)] += 1;
+        }
+    }
+
+    /// The line of the two listings beside each other; a kind of lengths that came too rarely ends the run.
+    pub fn report_beside(&self) {
+        let kinds = std::iter::zip(Self::BESIDE, self.beside);
+        let kinds: Vec<String> = kinds
+            .map(|(kind, times)| format!("{kind} {times}"))
+            .collect();
+        println!(
+            "surviving_equilibria after strikes beside equilibria: {}",
+            kinds.join(", ")
+        );
+        sure(
+            self.beside.iter().all(|times| *times >= LEAST),
+            "the two listings were held to each other too rarely",
+        );
     }
 
     /// The line of the answers in lists; one that came too rarely ends the run.
@@ -395,9 +447,11 @@ pub fn strikes() -> Strikes {
     let mut strikes = Strikes {
         fresh: Tally::of("fresh", &survivors::GROUNDS, LEAST),
         strike: Tally::of("strike", &survivors::GROUNDS, LEAST),
-        surviving: Tally::of("surviving_equilibria", &survivors::GROUNDS, LEAST),
+        surviving: Tally::of("surviving_equilibria", &listings::GROUNDS, LEAST),
         strikes: Tally::of("strikes", &survivors::GROUNDS, LEAST),
         answers: [0; document::NOT_DOMINATED as usize + 1],
+        beside: [0; Strikes::BESIDE.len()],
+        lengths: Random(18),
     };
     strike_cases::run(&mut strikes);
     strikes

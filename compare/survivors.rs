@@ -39,7 +39,7 @@ const OTHERS: [&str; STRUCK as usize + 1 - STATUSES.len()] = [
     "refused by 14, struck:",
 ];
 
-pub const GROUNDS: [&str; STATUSES.len() + OTHERS.len()] = tally::after_statuses(&OTHERS);
+pub const GROUNDS: [&str; STATUSES.len() + OTHERS.len()] = tally::after(&STATUSES, &OTHERS);
 
 /// The number of the refusal that has the ground.
 pub fn refusal(ground: u32) -> u32 {

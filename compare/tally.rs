@@ -23,16 +23,19 @@ pub const STATUSES: [&str; document::SHORT as usize + 1] = [
     "refused by 13:",
 ];
 
-/// Other classes after the first statuses, as many of these as there is room for.
-pub const fn after_statuses<const N: usize>(others: &[&'static str]) -> [&'static str; N] {
-    let statuses = N - others.len();
+/// Other classes after the first ones of some, as many of these as there is room for.
+pub const fn after<const N: usize>(
+    first: &[&'static str],
+    others: &[&'static str],
+) -> [&'static str; N] {
+    let number = N - others.len();
     let mut all = [""; N];
     let mut i = 0;
     while i < N {
-        all[i] = if i < statuses {
-            STATUSES[i]
+        all[i] = if i < number {
+            first[i]
         } else {
-            others[i - statuses]
+            others[i - number]
         };
         i += 1;
     }
