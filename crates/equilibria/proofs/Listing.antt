@@ -26,28 +26,36 @@ module _ (counts : List ℕ) (payoffs : List Float) (es : List (List ℕ)) where
         (l ≡ listedOf es (length counts) (length old) (length old′))
         × ((choices ≡ over (joined (l .written) es) old) × (utilities ≡ over (joined (l .written) (map (profilePart counts payoffs) es)) old′))
 
-    -- what a listing tells and leaves in its outputs
-    abbrev pub Lists : Refusal → Told Listed → Type 0
-    Lists r t =
+    -- the listing of es, unless r refuses, tells t and leaves this in its outputs
+    abbrev pub Answered : Refusal → Told Listed → Type 0
+    Answered r t =
         (t ≡ listingAnswer counts payoffs r es (length old) (length old′))
         × ((choices ≡ over (listedChoices counts payoffs r es (length old) (length old′)) old)
         × (utilities ≡ over (listedUtilities counts payoffs r es (length old) (length old′)) old′))
 
-    -- Where nothing refuses, a listing is that.
-    pub listing-told : (r : Refusal) → r ≡ none → (l : Listed) → Wrote l → Lists r (values l)
+    -- Where nothing refuses, that is the listing.
+    pub listing-told : (r : Refusal) → r ≡ none → (l : Listed) → Wrote l → Answered r (values l)
     unfolding listingAnswer listedChoices listedUtilities
-    listing-told r h l (is, (first, second)) = rw h (ap (λ (l : Listed). values l) is, (first ∙ ap (λ (l : Listed). over (joined (l .written) es) old) is, second ∙ ap (λ (l : Listed). over (joined (l .written) (map (profilePart counts payoffs) es)) old′) is))
+    listing-told r h l (is, (first, second)) =
+        rw h (
+          ap (λ (l : Listed). values l) is,
+          (
+            first ∙ ap (λ (l : Listed). over (joined (l .written) es) old) is,
+            second ∙ ap (λ (l : Listed). over (joined (l .written) (map (profilePart counts payoffs) es)) old′) is,
+          ),
+        )
 
   -- What refuses is told, and nothing is written: both outputs are as they were.
-  pub listing-refused : (old : List ℕ) (old′ : List Float) (r : Refusal) (e : NormalFormError) → r ≡ some e → Lists old old old′ old′ r (refused (numberOf e))
+  pub listing-refused : (old : List ℕ) (old′ : List Float) (r : Refusal) (e : NormalFormError) → r ≡ some e → Answered old old old′ old′ r (refused (numberOf e))
   unfolding listingAnswer listedChoices listedUtilities
   listing-refused old old′ r e h = rw h (refl, (refl, refl))
 
   module _ (a b : ℕ) where
-    pub listing-none : (r : Refusal) (e : NormalFormError) → r ≡ some e
+    -- The same for outputs of any lengths.
+    pub nothing-listed : (r : Refusal) (e : NormalFormError) → r ≡ some e
         → (listingAnswer counts payoffs r es a b ≡ refused (numberOf e)) × (listedChoices counts payoffs r es a b ≡ []) × (listedUtilities counts payoffs r es a b ≡ [])
     unfolding listingAnswer listedChoices listedUtilities
-    listing-none r e h = rw h (refl, refl, refl)
+    nothing-listed r e h = rw h (refl, refl, refl)
 
     -- A listing that refuses leaves both outputs as they were.
     pub listing-kept : (r : Refusal) (e : ℕ) → listingAnswer counts payoffs r es a b ≡ refused e → (old : List ℕ) (old′ : List Float)

@@ -19,7 +19,7 @@ use Rattle.refusal.specs.declared.NormalFormError.{NormalFormError}
 use Rattle.payoff_tables.specs.Checks.{tableRefusal}
 use Rattle.payoff_tables.proofs.Checks.{table-law}
 use Rattle.equilibria.specs.Answers.{tableEquilibria}
-use Rattle.equilibria.proofs.Listing.{listing-none}
+use Rattle.equilibria.proofs.Listing.{nothing-listed}
 use Rattle.survivors.specs.declared.Survivors.{Survivors}
 use Rattle.survivors.specs.Survivors.{freshOf, noSurvivors, markCount}
 use Rattle.strikes.specs.Answers.{survivorsRefusal, strikeAnswer, strikeLeaves, survivingEquilibria}
@@ -108,8 +108,8 @@ module _ (counts : List ℕ) (payoffs : List Float) (v : Survivors) (from : v �
   same-total a b c d =
       whatever (λ u. SameTotal counts payoffs u a b c d) (λ h. demand-3 counts payoffs (table-law counts payoffs .0 h) cs .same-total a b c d)
       (λ e h.
-      let first = listing-none counts payoffs (survivingEquilibria counts payoffs left) a b (survivorsRefusal counts payoffs left) e (table-first counts payoffs left e h) in
-      let second = listing-none counts payoffs (tableEquilibria counts payoffs) c d (tableRefusal counts payoffs) e h in
+      let first = nothing-listed counts payoffs (survivingEquilibria counts payoffs left) a b (survivorsRefusal counts payoffs left) e (table-first counts payoffs left e h) in
+      let second = nothing-listed counts payoffs (tableEquilibria counts payoffs) c d (tableRefusal counts payoffs) e h in
       ap (toldOf (λ (l : Listed). l .total)) (first .0 ∙ sym (second .0)))
 
   -- and they are the same where their outputs have equal lengths or hold all
@@ -117,8 +117,8 @@ module _ (counts : List ℕ) (payoffs : List Float) (v : Survivors) (from : v �
   same-listing a b c d k =
       whatever (λ u. SameListing counts payoffs u a b c d) (λ h. demand-3 counts payoffs (table-law counts payoffs .0 h) cs .same-listing a b c d k)
       (λ e h.
-      let first = listing-none counts payoffs (survivingEquilibria counts payoffs left) a b (survivorsRefusal counts payoffs left) e (table-first counts payoffs left e h) in
-      let second = listing-none counts payoffs (tableEquilibria counts payoffs) c d (tableRefusal counts payoffs) e h in
+      let first = nothing-listed counts payoffs (survivingEquilibria counts payoffs left) a b (survivorsRefusal counts payoffs left) e (table-first counts payoffs left e h) in
+      let second = nothing-listed counts payoffs (tableEquilibria counts payoffs) c d (tableRefusal counts payoffs) e h in
       record { answer = first .0 ∙ sym (second .0); choices = first .1 ∙ sym (second .1); utilities = first .2 ∙ sym (second .2) })
 
   -- and accepted strikes and marks make up all strategies

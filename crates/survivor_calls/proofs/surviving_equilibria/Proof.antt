@@ -13,7 +13,7 @@ use Rattle.refusal.specs.declared.NormalFormError.the-variants.{ForeignSurvivor
 use Rattle.refusal.proofs.Told.{told-refused}
 use Rattle.payoff_tables.specs.Checks.{tableRefusal}
 use Rattle.payoff_tables.proofs.Table.{TableTold, table-told}
-use Rattle.equilibria.proofs.Listing.{Lists, listing-told, listing-refused}
+use Rattle.equilibria.proofs.Listing.{Answered, listing-told, listing-refused}
 use Rattle.survivors.specs.declared.Survivors.{Survivors}
 use Rattle.strikes.specs.Answers.{survivorsRefusal, survivingEquilibria}
 use Rattle.strikes.proofs.Cases.{table-first, then-foreign, not-foreign}
@@ -37,7 +37,7 @@ module _ (s : tie.Start) where
   paid = s .args .utilities .now
 
   -- what refuses is told, and nothing is written
-  kept : (e : NormalFormError) → survivorsRefusal cs ps v ≡ some e → Lists cs ps (survivingEquilibria cs ps v) out out paid paid (survivorsRefusal cs ps v) (refused (numberOf e))
+  kept : (e : NormalFormError) → survivorsRefusal cs ps v ≡ some e → Answered cs ps (survivingEquilibria cs ps v) out out paid paid (survivorsRefusal cs ps v) (refused (numberOf e))
   kept = listing-refused cs ps (survivingEquilibria cs ps v) out paid (survivorsRefusal cs ps v)
 
 -- the arm where the table has no refusal
