@@ -91,7 +91,7 @@ pub const EVERY: usize = usize::MAX;
 pub const SOME: usize = 6;
 
 /// The lengths that are tried: every pair, with another length drawn, up to more than twice as long as all need; or so
-/// many of these pairs drawn, and the lengths that hold all exactly.
+/// many of these pairs drawn, and as many of four: that hold all exactly, one element less in either, and empty.
 pub fn drawn(random: &mut Random, players: usize, total: usize, most: usize) -> Vec<[usize; 2]> {
     let other = random.below(2 * (total + 1) * players + 1);
     let pairs = pairs(players, total, &[other]);
@@ -100,5 +100,8 @@ pub fn drawn(random: &mut Random, players: usize, total: usize, most: usize) -> 
     }
     let places = random.places(most, pairs.len());
     let drawn = places.iter().map(|place| pairs[*place]);
-    drawn.chain([[total * players; 2]]).collect()
+    let all = total * players;
+    let less = all.saturating_sub(1);
+    let four = [[all, all], [less, all], [all, less], [0, 0]];
+    drawn.chain(four.into_iter().take(most)).collect()
 }

@@ -1,12 +1,12 @@
--- What the answers say: the whole table is the case where every strategy is marked, the total told is the length of the list, and a profile
--- is said to be an equilibrium exactly where the list has it. Assumes nothing.
-use mathlib.Core.Path.{_≡_, ap}
+-- What the answers say: the whole table is the case where every strategy is marked, and a profile is said to be an equilibrium exactly where
+-- the list has it. Assumes nothing.
+use mathlib.Core.Path.{_≡_}
 use mathlib.Core.Bool.{Bool, true}
 use mathlib.Core.List.{List}
 use mathlib.Core.Logic.{_↔_, Iff·trans, Iff·symm}
 use Prim.Native.Nat.{ℕ}
 use lib.Dec.{T}
-use lib.ListN.{length, replicate}
+use lib.ListN.{replicate}
 use lib.Ieee.{Float}
 use Rattle.game.specs.Finite.{_∈_, Lists}
 use Rattle.game.specs.Game.{Profile, Earlier, whole}
@@ -19,8 +19,6 @@ use Rattle.refusal.specs.Refusal.{_then_}
 use Rattle.refusal.specs.Told.{values}
 use Rattle.refusal.proofs.Told.{told-values}
 use Rattle.refusal.proofs.Refusal.{then-none}
-use Rattle.refusal.specs.declared.Listed.{Listed}
-use Rattle.written_lists.specs.Listing.{listedOf}
 use Rattle.payoff_tables.specs.Limits.{maxMarks}
 use Rattle.payoff_tables.specs.Table.{tableGame}
 use Rattle.payoff_tables.specs.Meaning.{Shape}
@@ -28,7 +26,7 @@ use Rattle.payoff_tables.specs.Checks.{tableRefusal, profileRefusal}
 use Rattle.payoff_tables.proofs.Checks.{profile-law}
 use Rattle.marks.specs.Marks.{marked}
 use Rattle.marks.proofs.Marks.{marks-whole}
-use Rattle.equilibria.specs.Answers.{tableEquilibria, isEquilibriumAnswer, listingAnswer, equilibriaAnswer}
+use Rattle.equilibria.specs.Answers.{tableEquilibria, isEquilibriumAnswer}
 
 module _ (counts : List ℕ) (payoffs : List Float) where
   -- With a mark on every place, the equilibria are the whole table's,
@@ -44,11 +42,6 @@ module _ (counts : List ℕ) (payoffs : List Float) where
       let g = tableGame counts payoffs in
       same-test _ _ (Iff·trans (equilibrium-listed g (marked (replicate maxMarks true)) x r)
       (Iff·trans (rw (whole-equilibria h) (λ i. i, λ i. i)) (Iff·symm (equilibrium-listed g (whole g) x r))))
-
-  -- The total that `equilibria` tells is the length of the list, whatever the outputs' lengths.
-  pub total-is-length : (l : Listed) (a b : ℕ) → values l ≡ equilibriaAnswer counts payoffs a b → l .total ≡ length (tableEquilibria counts payoffs)
-  unfolding listingAnswer listedOf
-  total-is-length l a b h = ap (λ (l : Listed). l .total) (told-values (tableRefusal counts payoffs) (listedOf (tableEquilibria counts payoffs) (length counts) a b) l h .1)
 
   -- `is_equilibrium` answers yes exactly for the members of that list.
   pub equilibrium-is-member : (x : List ℕ) (b : Bool) → values b ≡ isEquilibriumAnswer counts payoffs x → T b ↔ (x ∈ tableEquilibria counts payoffs)

@@ -1,5 +1,5 @@
--- A listing's laws: what it tells and writes where nothing refuses, that outputs which hold all get all, and that a refused listing leaves both
--- outputs as they were. Assumes nothing.
+-- A listing's laws: what it tells and writes where nothing refuses, what the total is, that outputs which hold all get all, and
+-- that a refused listing leaves both outputs as they were. Assumes nothing.
 use mathlib.Core.Path.{_≡_, refl, ap, _∙_}
 use mathlib.Core.List.{List, [], map, flatMap}
 use mathlib.Core.Option.{none, some}
@@ -11,6 +11,7 @@ use Rattle.refusal.specs.Refusal.{Refusal, numberOf}
 use Rattle.refusal.specs.Told.{Told, values, refused}
 use Rattle.refusal.specs.declared.Listed.{Listed}
 use Rattle.refusal.specs.declared.NormalFormError.{NormalFormError}
+use Rattle.refusal.proofs.Told.{told-values}
 use Rattle.written_lists.specs.Outputs.{writtenOf, joined, over}
 use Rattle.written_lists.specs.Listing.{listedOf}
 use Rattle.written_lists.proofs.Outputs.{refused-kept, joined-map}
@@ -56,6 +57,11 @@ module _ (counts : List ℕ) (payoffs : List Float) (es : List (List ℕ)) where
         → (listingAnswer counts payoffs r es a b ≡ refused (numberOf e)) × (listedChoices counts payoffs r es a b ≡ []) × (listedUtilities counts payoffs r es a b ≡ [])
     unfolding listingAnswer listedChoices listedUtilities
     nothing-listed r e h = rw h (refl, refl, refl)
+
+    -- The total that is told is the length of the list, whatever the outputs' lengths.
+    pub total-is-length : (r : Refusal) (l : Listed) → values l ≡ listingAnswer counts payoffs r es a b → l .total ≡ length es
+    unfolding listingAnswer listedOf
+    total-is-length r l h = ap (λ (l : Listed). l .total) (told-values r (listedOf es (length counts) a b) l h .1)
 
     -- A listing that refuses leaves both outputs as they were.
     pub listing-kept : (r : Refusal) (e : ℕ) → listingAnswer counts payoffs r es a b ≡ refused e → (old : List ℕ) (old′ : List Float)

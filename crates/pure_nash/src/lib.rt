@@ -24,8 +24,8 @@ ghost use Rattle.equilibria.specs.Answers.{isEquilibriumAnswer, equilibriaAnswe
 // Tables of at most this many cells are walked with smaller arrays, which take less time to clear.
 const FEW_CELLS: usize = 2048;
 
-// Lists the equilibria among the marks, in profile order: P choices of each into `choices`, P payoffs of each, bits kept, into `utilities`, of
-// the first that both outputs hold whole; how many there are, and how many are written. Elements past those written keep their contents. The
+// How many equilibria there are among the marks, and how many of them are written: the first that both outputs hold whole, in profile order, P
+// choices of each into `choices`, and P payoffs of each, bits kept, into `utilities`. Elements past those written keep their contents. The
 // caller proves that the table has none of refusals 1 to 7 and `total` profiles, and that there are as many marks as there may be.
 pub fn marked_equilibria(
     counts: &[usize],
@@ -77,9 +77,9 @@ pub fn is_equilibrium(counts: &[usize], payoffs: &[f64], profile: &[usize]) -> B
     }
 }
 
-// The equilibria, each once, in profile order: P choices of each into `choices`, P payoffs of each, bits kept, into `utilities`, of the first
-// that both outputs hold whole; how many there are, and how many are written. Elements past those written keep their contents. With empty
-// outputs it is a count. Or the first of 1 to 7, and nothing is written.
+// How many equilibria there are, and how many of them are written: the first that both outputs hold whole, each once, in profile order, P
+// choices of each into `choices`, and P payoffs of each, bits kept, into `utilities`. Elements past those written keep their contents. With
+// empty outputs nothing is written. Or the first of 1 to 7, and nothing is written.
 pub fn equilibria(
     counts: &[usize],
     payoffs: &[f64],

@@ -2,7 +2,7 @@
 -- agreement with the machine (Chain) and the theorem of `game` about the machine. Assumes nothing.
 use mathlib.Core.Path.{_≡_, refl, sym, ap, ap₂, _∙_, subst, subst₂}
 use mathlib.Core.List.{List, map}
-use mathlib.Core.Logic.{⊎-elim}
+use mathlib.Core.Logic.{inl, inr, ⊎-elim}
 use mathlib.Core.Option.{none}
 use Prim.Native.Nat.{ℕ}
 use lib.ListN.{length}
@@ -27,12 +27,20 @@ use Rattle.survivors.specs.declared.Survivors.{Survivors}
 use Rattle.survivors.specs.Survivors.{marksOf, freshOf}
 use Rattle.strikes.specs.Answers.{survivorsRefusal}
 use Rattle.strike_chains.specs.Answers.{chain, acceptedOf, dominatorOf, answersSaid}
-use Rattle.strike_chains.specs.Demand3.{SameTotal, SameListing, EqualOrHoldAll, Demand3}
+use Rattle.strike_chains.specs.Demand3.{SameTotal, SameListing, HoldsAll, EqualOrHoldAll, Demand3}
 use Rattle.survivors.proofs.Marks.{fresh-marks, count-fresh}
 use Rattle.survivors.proofs.Foreign.{own-not, foreign-law}
 use Rattle.strikes.proofs.Cases.{not-foreign}
 use Rattle.strike_chains.proofs.Chain.{Good, fresh-good, chain-counted, Ran, ran}
 use Rattle.strike_chains.proofs.Written.{answers-said}
+
+-- For the entries either is enough: equal lengths, or outputs that hold all.
+module _ (counts : List ℕ) (payoffs : List Float) (a b : ℕ) where
+  pub equal-lengths : EqualOrHoldAll counts payoffs a b a b
+  equal-lengths = inl (refl, refl)
+
+  pub holding-all : (c d : ℕ) → HoldsAll counts payoffs a → HoldsAll counts payoffs b → HoldsAll counts payoffs c → HoldsAll counts payoffs d → EqualOrHoldAll counts payoffs a b c d
+  holding-all c d h i j k = inr (h, i, j, k)
 
 module _ (counts : List ℕ) (payoffs : List Float) (t : Table counts payoffs) where
   abbrev g : Game

@@ -3,7 +3,7 @@
 use mathlib.Core.Path.{_≡_, refl}
 use mathlib.Core.List.{[], _∷_, flatMap}
 use lib.Ieee as Ieee
-use Rattle.game.specs.Game.{strategy, strategies, profiles, inside}
+use Rattle.game.specs.Game.{strategy, strategies, profiles, whole, inside}
 use Rattle.game.specs.Solution.{gains, deviations, equilibrium, equilibria}
 use Rattle.refusal.specs.Told.{values}
 use Rattle.written_lists.specs.Listing.{listedOf}
@@ -30,7 +30,7 @@ record Computed : Type 0 where
   left-short : survivingAnswer pair twice left 1 2 ≡ values (record { total = 1; written = 0 })
 
 computed : Computed
-unfolding flatMap strategies profiles inside gains deviations equilibrium equilibria finite key rank Ieee.toBits Ieee.ofBits offset payoffAt profilePart tableGame marked countRefusal countsRefusal payoffsRefusal tableRefusal listedOf listingAnswer listedChoices listedUtilities withoutMark allMarks freshOf markedFrom foreign
+unfolding flatMap strategies profiles whole inside gains deviations equilibrium equilibria finite key rank Ieee.toBits Ieee.ofBits offset payoffAt profilePart tableGame marked countRefusal countsRefusal payoffsRefusal tableRefusal listedOf listingAnswer listedChoices listedUtilities withoutMark allMarks freshOf markedFrom foreign
 computed =
     record {
       left-told = refl;

@@ -105,10 +105,10 @@ pub fn strike(
 
 // ---- the survivors' listing
 
-// The equilibria among the survivors, in profiles of survivors and with changes to survivors only, each once, in profile order: P choices of
-// each into `choices`, P payoffs of each, bits kept, into `utilities`, of the first that both outputs hold whole; how many there are, and how
-// many are written. Elements past those written keep their contents. With empty outputs it is a count. Or the first of 1 to 7 and 16, and
-// nothing is written.
+// How many equilibria there are among the survivors, in profiles of survivors and with changes to survivors only, and how many of them are
+// written: the first that both outputs hold whole, each once, in profile order, P choices of each into `choices`, and P payoffs of each, bits
+// kept, into `utilities`. Elements past those written keep their contents. With empty outputs nothing is written. Or the first of 1 to 7 and
+// 16, and nothing is written.
 pub fn surviving_equilibria(
     counts: &[usize],
     payoffs: &[f64],

@@ -1,13 +1,11 @@
 // Strikes tables in several orders each, until no survivor is dominated, and compares. The tables
-// and
-// the orders come from a generator with a fixed seed. An order is a list of single strikes, every
-// second of them drawn, so that many name no player, no strategy, a struck one or one that nothing
-// dominates. After each order this must hold:
+// and the orders come from a generator with a fixed seed. An order is a list of single strikes,
+// every second of them drawn, so that many name no player, no strategy, a struck one or one that
+// nothing dominates. After each order this must hold:
 //     the survivors are those of the table's first order;
 //     the accepted strikes and the marks together are as many as the strategies of the table;
 //     `surviving_equilibria` returns and writes what `equilibria` does, bits of payoffs included,
-// and
-//     after each accepted strike too;
+//     and the same total into short outputs, and after each accepted strike too;
 //     `strikes` on the same list answers, and leaves, the same.
 // Only counts are printed, and the table's number where one of these does not hold.
 use refusal::Listed;
@@ -292,7 +290,22 @@ fn told_listing(r: ListingResult) -> Listed {
     }
 }
 
-// Whether both listings told and wrote the same. Counts the equilibria.
+// How many equilibria the survivors' listing tells, into outputs of one element.
+fn short_total(counts: &[usize], payoffs: &[f64], left: Survivors) -> usize {
+    let mut choices = [FILLING; 1];
+    let mut utilities = [FLOAT_FILLING; 1];
+    let listed = told_listing(survivor_calls::surviving_equilibria(
+        counts,
+        payoffs,
+        left,
+        &mut choices,
+        &mut utilities,
+    ));
+    listed.total
+}
+
+// Whether both listings told and wrote the same, and told the same total into short outputs. Counts
+// the equilibria.
 fn listings(
     counts: &[usize],
     payoffs: &[f64],
@@ -319,6 +332,7 @@ fn listings(
     add(tally, EQUILIBRIA, whole.total);
     (surviving.total == whole.total)
         & (surviving.written == whole.written)
+        & (short_total(counts, payoffs, left) == whole.total)
         & same_written(&choices, &whole_choices, &utilities, &whole_utilities)
 }
 
@@ -507,8 +521,7 @@ fn same_list(
 }
 
 // Strikes until the sweep has been through all of its places since the last accepted strike, and
-// has
-// `strikes` do the same.
+// has `strikes` do the same.
 fn one_order(
     counts: &[usize],
     payoffs: &[f64],
