@@ -39,7 +39,7 @@ module _ (counts : List ℕ) (payoffs : List Float) where
     unfoldable pub listedUtilities : List Float
     listedUtilities = writtenOf (λ l. joined (l .written) (map (profilePart counts payoffs) es)) listingAnswer
 
-  -- the listing of the whole table's, which refuses 1 to 7
+  -- the listing of the whole table's equilibria, which refuses 1 to 7
   abbrev pub equilibriaAnswer : ℕ → ℕ → Told Listed
   equilibriaAnswer = listingAnswer (tableRefusal counts payoffs) tableEquilibria
 

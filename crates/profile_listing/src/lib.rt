@@ -46,28 +46,28 @@ fn put_utilities(counts: &[usize], payoffs: &[f64], k: usize, utilities: &mut [f
 }
 
 // Writes the first of those that are found, as many as both outputs hold whole: how many are found, and how many are written. Elements past
-// those written keep their contents. The caller proves that the table has none of refusals 1 to 7 and `total` profiles, and that `found` has
+// those written keep their contents. The caller proves that the table has none of refusals 1 to 7 and `profiles` profiles, and that `found` has
 // a place for each.
 pub fn list_found(
     counts: &[usize],
     payoffs: &[f64],
     found: &[bool],
-    total: usize,
+    profiles: usize,
     choices: &mut [usize],
     utilities: &mut [f64],
 ) -> Listed
     requires { ⌜ Table (now counts) (now payoffs) ⌝ }
-    requires { ⌜ (total ≡ product (now counts)) × (total ≤ length (now found)) ⌝ }
+    requires { ⌜ (profiles ≡ product (now counts)) × (profiles ≤ length (now found)) ⌝ }
     ensures { λ r. ⌜ r ≡ listedOf (foundProfiles (now (counts .entry)) (now (found .entry))) (length (now (counts .entry))) (length (now (choices .entry))) (length (now (utilities .entry))) ⌝ }
     ensures { λ r. ⌜ now (choices .exit) ≡ over (joined (r .written) (foundProfiles (now (counts .entry)) (now (found .entry)))) (now (choices .entry)) ⌝ }
     ensures { λ r. ⌜ now (utilities .exit) ≡ over (joined (r .written) (map (profilePart (now (counts .entry)) (now (payoffs .entry))) (foundProfiles (now (counts .entry)) (now (found .entry))))) (now (utilities .entry)) ⌝ }
 {
     let players = counts.len();
     let room = table::lesser(choices.len(), utilities.len());
-    let mut number: usize = 0;
+    let mut total: usize = 0;
     let mut written: usize = 0;
     let mut k = 0;
-    while k < total {
+    while k < profiles {
         if found[k] {
             let at = written * players;
             if at + players <= room {
@@ -75,12 +75,12 @@ pub fn list_found(
                 put_utilities(counts, payoffs, k, utilities, at);
                 written += 1;
             }
-            number += 1;
+            total += 1;
         }
         k += 1;
     }
     Listed {
-        total: number,
+        total: total,
         written: written,
     }
 }

@@ -26,18 +26,18 @@ const FEW_CELLS: usize = 2048;
 
 // How many equilibria there are among the marks, and how many of them are written: the first that both outputs hold whole, in profile order, P
 // choices of each into `choices`, and P payoffs of each, bits kept, into `utilities`. Elements past those written keep their contents. The
-// caller proves that the table has none of refusals 1 to 7 and `total` profiles, and that there are as many marks as there may be.
+// caller proves that the table has none of refusals 1 to 7 and `profiles` profiles, and that there are as many marks as there may be.
 pub fn marked_equilibria(
     counts: &[usize],
     payoffs: &[f64],
     marks: &[bool],
-    total: usize,
+    profiles: usize,
     choices: &mut [usize],
     utilities: &mut [f64],
 ) -> Listed
     requires { ⌜ Table (now counts) (now payoffs) ⌝ }
     requires { ⌜ length (now marks) ≡ maxMarks ⌝ }
-    requires { ⌜ total ≡ product (now counts) ⌝ }
+    requires { ⌜ profiles ≡ product (now counts) ⌝ }
     ensures { λ r. ⌜ r ≡ listedOf (equilibria (tableGame (now (counts .entry)) (now (payoffs .entry))) (marked (now (marks .entry)))) (length (now (counts .entry))) (length (now (choices .entry))) (length (now (utilities .entry))) ⌝ }
     ensures { λ r. ⌜ now (choices .exit) ≡ over (joined (r .written) (equilibria (tableGame (now (counts .entry)) (now (payoffs .entry))) (marked (now (marks .entry))))) (now (choices .entry)) ⌝ }
     ensures { λ r. ⌜ now (utilities .exit) ≡ over (joined (r .written) (map (profilePart (now (counts .entry)) (now (payoffs .entry))) (equilibria (tableGame (now (counts .entry)) (now (payoffs .entry))) (marked (now (marks .entry)))))) (now (utilities .entry)) ⌝ }
@@ -45,13 +45,13 @@ pub fn marked_equilibria(
     if payoffs.len() <= FEW_CELLS {
         let mut known = [false; FEW_CELLS];
         let mut found = [false; FEW_CELLS];
-        equilibrium_search::find(counts, payoffs, marks, total, &mut known, &mut found);
-        return profile_listing::list_found(counts, payoffs, &found, total, choices, utilities);
+        equilibrium_search::find(counts, payoffs, marks, profiles, &mut known, &mut found);
+        return profile_listing::list_found(counts, payoffs, &found, profiles, choices, utilities);
     }
     let mut known = [false; MAX_CELLS];
     let mut found = [false; MAX_CELLS];
-    equilibrium_search::find(counts, payoffs, marks, total, &mut known, &mut found);
-    profile_listing::list_found(counts, payoffs, &found, total, choices, utilities)
+    equilibrium_search::find(counts, payoffs, marks, profiles, &mut known, &mut found);
+    profile_listing::list_found(counts, payoffs, &found, profiles, choices, utilities)
 }
 
 // Whether the profile is an equilibrium, or the first of 1 to 7, 11, and 12 in player order.
@@ -92,9 +92,16 @@ pub fn equilibria(
 {
     match table::table_profile_count(counts, payoffs) {
         UsizeResult::Err(e) => ListingResult::Err(e),
-        UsizeResult::Ok(total) => {
+        UsizeResult::Ok(profiles) => {
             let marks = [true; MAX_MARKS];
-            ListingResult::Ok(marked_equilibria(counts, payoffs, &marks, total, choices, utilities))
+            ListingResult::Ok(marked_equilibria(
+                counts,
+                payoffs,
+                &marks,
+                profiles,
+                choices,
+                utilities,
+            ))
         }
     }
 }

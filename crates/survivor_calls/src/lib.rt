@@ -122,7 +122,7 @@ pub fn surviving_equilibria(
 {
     match table::table_profile_count(counts, payoffs) {
         UsizeResult::Err(e) => ListingResult::Err(e),
-        UsizeResult::Ok(total) => {
+        UsizeResult::Ok(profiles) => {
             if survivors::is_foreign(counts, survivors) {
                 return ListingResult::Err(NormalFormError::ForeignSurvivors);
             }
@@ -131,7 +131,7 @@ pub fn surviving_equilibria(
                 counts,
                 payoffs,
                 &marks,
-                total,
+                profiles,
                 choices,
                 utilities,
             ))

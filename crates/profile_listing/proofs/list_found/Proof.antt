@@ -34,16 +34,16 @@ abbrev test : List ℕ → List Bool → List ℕ → Bool
 test counts found x = getD found (offset counts x) false
 
 abbrev Inv-loop : tie.InvT-loop
-Inv-loop counts payoffs found total choices₀ utilities₀ players room number₀ written₀ k₀ choices utilities number written k =
+Inv-loop counts payoffs found number choices₀ utilities₀ players room total₀ written₀ k₀ choices utilities total written k =
     let held : ℕ = entriesHeld (length counts) (length choices₀) (length utilities₀) in
-    (k ≤ total)
-    × (number ≤ k)
-    × (written ≡ min number held)
-    × Listing (λ x. x) (test counts found) (profiles counts) (length counts) held choices₀ choices number k
-    × Listing (profilePart counts payoffs) (test counts found) (profiles counts) (length counts) held utilities₀ utilities number k
+    (k ≤ number)
+    × (total ≤ k)
+    × (written ≡ min total held)
+    × Listing (λ x. x) (test counts found) (profiles counts) (length counts) held choices₀ choices total k
+    × Listing (profilePart counts payoffs) (test counts found) (profiles counts) (length counts) held utilities₀ utilities total k
 
 abbrev μ-loop : tie.MeasureT-loop
-μ-loop counts payoffs found total choices₀ utilities₀ players room number₀ written₀ k₀ choices utilities number written k = total - k
+μ-loop counts payoffs found number choices₀ utilities₀ players room total₀ written₀ k₀ choices utilities total written k = number - k
 
 abbrev start : tie.At-loop Inv-loop μ-loop → tie.Start Inv-loop μ-loop
 start c = c .before .before .before .before .before .before .before
@@ -68,7 +68,7 @@ module _ (c : tie.At-loop Inv-loop μ-loop) where
   abbrev held : ℕ
   held = entriesHeld (length counts) a b
 
-  -- what the two outputs hold when `number` are found before the k-th
+  -- what the two outputs hold when so many are found before the k-th
   abbrev Choices : List ℕ → ℕ → ℕ → Type 0
   Choices = Listing (λ x. x) (test counts found) (profiles counts) (length counts) held (start c .args .choices .now)
 
@@ -83,8 +83,8 @@ module _ (c : tie.At-loop Inv-loop μ-loop) where
   lengths : (length (c .loop .choices) ≡ a) × (length (c .loop .utilities) ≡ b)
   lengths =
       let most = held-law-here held .0 (le-refl held) in (
-        listing-length _ _ _ _ _ _ (c .loop .choices) (c .loop .number) (c .loop .k) (c .loop .inv .3) (most .0),
-        listing-length _ _ _ _ _ _ (c .loop .utilities) (c .loop .number) (c .loop .k) (c .loop .inv .4) (most .1),
+        listing-length _ _ _ _ _ _ (c .loop .choices) (c .loop .total) (c .loop .k) (c .loop .inv .3) (most .0),
+        listing-length _ _ _ _ _ _ (c .loop .utilities) (c .loop .total) (c .loop .k) (c .loop .inv .4) (most .1),
       )
 
 -- the profile of a turn
@@ -129,9 +129,9 @@ module _ (j : tie.Joined2 Inv-loop μ-loop) where
 
   -- it is one more, and it is written where it is held
   one-more : let c = at turn in let l = c .loop in
-      (j .if2 .written ≡ min (l .number + 1) (held c))
-      × Choices c (j .if2 .choices) (l .number + 1) (l .k + 1)
-      × Utilities c (j .if2 .utilities) (l .number + 1) (l .k + 1)
+      (j .if2 .written ≡ min (l .total + 1) (held c))
+      × Choices c (j .if2 .choices) (l .total + 1) (l .k + 1)
+      × Utilities c (j .if2 .utilities) (l .total + 1) (l .k + 1)
   one-more =
       let c = at turn in
       let l = c .loop in
@@ -141,19 +141,19 @@ module _ (j : tie.Joined2 Inv-loop μ-loop) where
       ⊎-elim
       (λ v.
       let more = held-more turn (v .0 .taken) in
-      let same : l .written ≡ l .number = omega (arith, l .inv .2, more) in
-      let less : l .number < held c = omega (arith, same, more) in (
+      let same : l .written ≡ l .total = omega (arith, l .inv .2, more) in
+      let less : l .total < held c = omega (arith, same, more) in (
         v .11 ∙ omega (arith, same, less),
-        subst⁻¹ (λ (out : List ℕ). Choices c out (l .number + 1) (l .k + 1)) (v .9)
-            (listing-yes _ _ _ (length (counts c)) _ _ (l .choices) (l .number) (l .k) (l .inv .3) here is _ less (r .each) (rw same at (v .2 .ensures))),
-        subst⁻¹ (λ (out : List Float). Utilities c out (l .number + 1) (l .k + 1)) (v .10)
-            (listing-yes _ _ _ (length (counts c)) _ _ (l .utilities) (l .number) (l .k) (l .inv .4) here is _ less (part-length r (payoffs c) (start c .pre .0 .full)) (rw same at (v .6 .ensures))),
+        subst⁻¹ (λ (out : List ℕ). Choices c out (l .total + 1) (l .k + 1)) (v .9)
+            (listing-yes _ _ _ (length (counts c)) _ _ (l .choices) (l .total) (l .k) (l .inv .3) here is _ less (r .each) (rw same at (v .2 .ensures))),
+        subst⁻¹ (λ (out : List Float). Utilities c out (l .total + 1) (l .k + 1)) (v .10)
+            (listing-yes _ _ _ (length (counts c)) _ _ (l .utilities) (l .total) (l .k) (l .inv .4) here is _ less (part-length r (payoffs c) (start c .pre .0 .full)) (rw same at (v .6 .ensures))),
       ))
       (λ v.
-      let full : held c ≤ l .number = omega (arith, l .inv .2, held-full turn (v .0 .left)) in (
+      let full : held c ≤ l .total = omega (arith, l .inv .2, held-full turn (v .0 .left)) in (
         v .3 ∙ omega (arith, l .inv .2, full),
-        subst⁻¹ (λ (out : List ℕ). Choices c out (l .number + 1) (l .k + 1)) (v .1) (listing-full _ _ _ _ _ _ (l .choices) (l .number) (l .k) (l .inv .3) here is full),
-        subst⁻¹ (λ (out : List Float). Utilities c out (l .number + 1) (l .k + 1)) (v .2) (listing-full _ _ _ _ _ _ (l .utilities) (l .number) (l .k) (l .inv .4) here is full),
+        subst⁻¹ (λ (out : List ℕ). Choices c out (l .total + 1) (l .k + 1)) (v .1) (listing-full _ _ _ _ _ _ (l .choices) (l .total) (l .k) (l .inv .3) here is full),
+        subst⁻¹ (λ (out : List Float). Utilities c out (l .total + 1) (l .k + 1)) (v .2) (listing-full _ _ _ _ _ _ (l .utilities) (l .total) (l .k) (l .inv .4) here is full),
       ))
       (j .if2 .came)
 
@@ -188,8 +188,8 @@ put-utilities-requires c κs =
 add-written : tie.Need-add-written Inv-loop μ-loop
 add-written c = omega (arith, few (c .before .before .before .before .before .before .before .before .before .before .before), c .before .before .before .before .before .before .before .before .before .before .before .before .loop .inv)
 
-add-number : tie.Need-add-number Inv-loop μ-loop
-add-number c = omega (arith, few (turn c), at (turn c) .loop .inv .1)
+add-total : tie.Need-add-total Inv-loop μ-loop
+add-total c = omega (arith, few (turn c), at (turn c) .loop .inv .1)
 
 add-k : tie.Need-add-k Inv-loop μ-loop
 add-k c = omega (arith, few (c .before .before))
@@ -210,8 +210,8 @@ loop-again c =
       omega arith,
       omega (arith, l .inv .1),
       l .inv .2,
-      listing-no _ _ _ _ _ _ (l .choices) (l .number) (l .k) (l .inv .3) here no-it,
-      listing-no _ _ _ _ _ _ (l .utilities) (l .number) (l .k) (l .inv .4) here no-it,
+      listing-no _ _ _ _ _ _ (l .choices) (l .total) (l .k) (l .inv .3) here no-it,
+      listing-no _ _ _ _ _ _ (l .utilities) (l .total) (l .k) (l .inv .4) here no-it,
     ))
     (c .if1 .came)
 
@@ -233,9 +233,9 @@ returns c =
     let y : ℕ = b (c .before) in
     let part = profilePart cs (payoffs (c .before)) in
     let done : length (profiles cs) ≤ l .k = omega (arith, length-profiles cs, s .pre .1 .0, c .loop-test) in
-    let first = listing-end _ _ _ _ _ _ (l .choices) (l .number) (l .k) (l .inv .3) done in
-    let second = listing-end _ _ _ _ _ _ (l .utilities) (l .number) (l .k) (l .inv .4) done in
-    let told : record { total = l .number; written = l .written } ≡ listedOf es n x y = listed-is es n x y (l .number) (l .written) (first .0) (l .inv .2) in
+    let first = listing-end _ _ _ _ _ _ (l .choices) (l .total) (l .k) (l .inv .3) done in
+    let second = listing-end _ _ _ _ _ _ (l .utilities) (l .total) (l .k) (l .inv .4) done in
+    let told : record { total = l .total; written = l .written } ≡ listedOf es n x y = listed-is es n x y (l .total) (l .written) (first .0) (l .inv .2) in
     let many : take (l .written) es ≡ take (held (c .before)) es = ap (λ (m : Listed). take (m .written) es) told ∙ take-written es n x y in (
       told,
       (
@@ -258,7 +258,7 @@ list-found-spec =
     put-choices-requires
     put-utilities-requires
     add-written
-    add-number
+    add-total
     add-k
     loop-less
     loop-again

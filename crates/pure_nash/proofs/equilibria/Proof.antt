@@ -14,10 +14,10 @@ use Rattle.pure_nash.proofs.equilibria.Statement.{statement}
 use Rattle.pure_nash.proofs.equilibria.Tie as tie
 
 -- the arm where the table has no refusal
-checked : (c : tie.After-total) → let s = c .before .before .before .before .before .before .before .args in TableTold (s .counts .now) (s .payoffs .now) (c .total .given .0 .0)
+checked : (c : tie.After-profiles) → let s = c .before .before .before .before .before .before .before .args in TableTold (s .counts .now) (s .payoffs .now) (c .profiles .given .0 .0)
 checked c =
     let s = c .before .before .before .before .before .before .before .args in
-    table-told (s .counts .now) (s .payoffs .now) (c .total .given .0 .0) (sym (ap toldUsize (c .total .given .1)) ∙ c .before .before .table-profile-count .ensures)
+    table-told (s .counts .now) (s .payoffs .now) (c .profiles .given .0 .0) (sym (ap toldUsize (c .profiles .given .1)) ∙ c .before .before .table-profile-count .ensures)
 
 table-profile-count-requires : tie.Need-table-profile-count-requires
 table-profile-count-requires c κs = search needs
@@ -25,8 +25,8 @@ table-profile-count-requires c κs = search needs
 enum-known-e : tie.Need-enum-known-e
 enum-known-e c = search needs
 
-enum-known-total : tie.Need-enum-known-total
-enum-known-total c = search needs
+enum-known-profiles : tie.Need-enum-known-profiles
+enum-known-profiles c = search needs
 
 slice-aggregate-marked-equilibria : tie.Need-slice-aggregate-marked-equilibria
 slice-aggregate-marked-equilibria c = search needs
@@ -67,7 +67,7 @@ equilibria-spec =
     (tie.spec
     table-profile-count-requires
     enum-known-e
-    enum-known-total
+    enum-known-profiles
     slice-aggregate-marked-equilibria
     marked-equilibria-requires
     returns

@@ -41,12 +41,12 @@ module _ (s : tie.Start) where
   kept = listing-refused cs ps (survivingEquilibria cs ps v) out paid (survivorsRefusal cs ps v)
 
 -- the arm where the table has no refusal
-module _ (c : tie.After-total) where
+module _ (c : tie.After-profiles) where
   abbrev start : tie.Start
   start = c .before .before .before .before .before .before .before
 
-  checked : TableTold (cs start) (ps start) (c .total .given .0 .0)
-  checked = table-told (cs start) (ps start) (c .total .given .0 .0) (sym (ap toldUsize (c .total .given .1)) ∙ c .before .before .table-profile-count .ensures)
+  checked : TableTold (cs start) (ps start) (c .profiles .given .0 .0)
+  checked = table-told (cs start) (ps start) (c .profiles .given .0 .0) (sym (ap toldUsize (c .profiles .given .1)) ∙ c .before .before .table-profile-count .ensures)
 
 table-profile-count-requires : tie.Need-table-profile-count-requires
 table-profile-count-requires c κs = search needs
@@ -54,8 +54,8 @@ table-profile-count-requires c κs = search needs
 enum-known-e : tie.Need-enum-known-e
 enum-known-e c = search needs
 
-enum-known-total : tie.Need-enum-known-total
-enum-known-total c = search needs
+enum-known-profiles : tie.Need-enum-known-profiles
+enum-known-profiles c = search needs
 
 is-foreign-requires : tie.Need-is-foreign-requires
 is-foreign-requires c κs = search needs
@@ -102,7 +102,7 @@ surviving-equilibria-spec =
     (tie.spec
     table-profile-count-requires
     enum-known-e
-    enum-known-total
+    enum-known-profiles
     is-foreign-requires
     returns
     slice-aggregate-marked-equilibria
