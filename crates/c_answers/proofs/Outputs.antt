@@ -7,14 +7,13 @@ use mathlib.Core.Option.{Option, none, some}
 use Prim.Native.Nat.{ℕ, _+_, _≤_, _<_}
 use native.Mathlib.Omega.{arith}
 use Rattle.refusal.specs.Refusal.{Refusal, _then_}
-use Rattle.refusal.specs.Told.{Told, values, refused, toldOf, toldUnit, unless, status}
-use Rattle.refusal.proofs.Told.{told-values}
+use Rattle.refusal.specs.Told.{Told, values, refused, toldOf, toldUnit, unless, status, byteOf}
+use Rattle.refusal.proofs.Told.{told-values, byte-back}
 use borrow.Author.Count.{below-more}
 use lib.Dec.{eqb}
 use lib.ListN.{length, getD, set, take, drop, length-map, length-set}
 use lib.Seq.{ext-getD, getD-set-same, getD-set-other}
 use lib.Ieee.{Float}
-use mir.Val.{boolByte}
 use Rattle.payoff_tables.specs.Table.{profilePart}
 use Rattle.payoff_tables.specs.Checks.{tableRefusal, profileRefusal}
 use Rattle.payoff_tables.specs.Answers.{profilePayoffs, partFirst}
@@ -22,7 +21,7 @@ use Rattle.table.specs.Space.{spaceOf, spaceUnless}
 use Rattle.table.specs.declared.SpaceResult.{SpaceResult}
 use Rattle.payoff_tables.proofs.Offsets.{getD-map}
 use Rattle.survivors.specs.declared.Survivors.{Survivors}
-use Rattle.c_answers.specs.Status.{output, beside, someByte, orZero, partStart, partLength, survivorsOf, byteOf, markBytes}
+use Rattle.c_answers.specs.Status.{output, beside, someByte, orZero, partStart, partLength, survivorsOf, markBytes}
 
 -- an answer t told into an output, where t is u
 pub told-into : {A : Type 0} (t u : Told A) (n : ℕ) (new old : A) → t ≡ u → (n ≡ status t) × (new ≡ output t old) → (n ≡ status u) × (new ≡ output u old)
@@ -95,18 +94,6 @@ module _ {A B : Type 0} (f : A → B) (xs : List A) (a : A) (b : B) (n : ℕ) wh
   made-all i out e h m =
       ext-getD b out (map f xs) (m .size ∙ sym (length-map xs f ∙ e)) (λ j k.
       m .done j (omega (arith, m .size)) ∙ sym (getD-map f xs j a b (omega (arith, m .size, e))))
-
--- ---- a truth value as a byte
-
--- the byte that the code makes of one
-pub byte-is : (b : Bool) → boolByte b ≡ byteOf b
-byte-is true = refl
-byte-is false = refl
-
--- a byte that is not 0 says yes, and so the byte tells which it was
-pub byte-back : (b : Bool) → not (eqb (byteOf b) 0) ≡ b
-byte-back true = refl
-byte-back false = refl
 
 -- ---- survivors
 

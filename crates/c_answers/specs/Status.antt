@@ -1,6 +1,6 @@
 -- How a call tells its answer to C: a status, which is `refusal`'s, and outputs that hold the values or, refused, what they held.
 -- Assumes nothing.
-use mathlib.Core.Bool.{Bool, true, false, not}
+use mathlib.Core.Bool.{not}
 use mathlib.Core.List.{List, map}
 use mathlib.Core.Option.{Option, none, some}
 use Prim.Native.Nat.{ℕ, _*_}
@@ -8,7 +8,7 @@ use lib.Dec.{eqb}
 use lib.ListN.{length}
 use lib.Ieee.{Float}
 use Rattle.refusal.specs.Refusal.{_then_}
-use Rattle.refusal.specs.Told.{Told, values, refused, unless}
+use Rattle.refusal.specs.Told.{Told, values, refused, unless, byteOf}
 use Rattle.payoff_tables.specs.Table.{offset}
 use Rattle.payoff_tables.specs.Checks.{tableRefusal, profileRefusal}
 use Rattle.survivors.specs.declared.Survivors.{Survivors}
@@ -22,11 +22,6 @@ output (refused n) old = old
 abbrev pub beside : {A B : Type 0} → Told A → B → B → B
 beside (values a) v old = v
 beside (refused n) v old = old
-
--- a truth value goes to C as a byte: 1, or 0 for no
-abbrev pub byteOf : Bool → ℕ
-byteOf true = 1
-byteOf false = 0
 
 -- a number or none goes to C as the byte of whether there is one, and the number, 0 where there is
 -- none

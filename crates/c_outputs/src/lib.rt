@@ -14,10 +14,10 @@ ghost use mathlib.Core.Path.{_≡_};
 ghost use mathlib.Core.Bool.{not};
 ghost use mathlib.Core.List.{map};
 ghost use lib.Dec.{eqb};
-ghost use Rattle.refusal.specs.Told.{toldOf, toldUnit, toldUsize, toldBool, toldListing, status};
+ghost use Rattle.refusal.specs.Told.{toldOf, toldUnit, toldUsize, toldBool, toldListing, status, byteOf};
 ghost use Rattle.utility.specs.Value.{toldUtility};
 ghost use Rattle.catalogue.specs.Answers.{toldNumber};
-ghost use Rattle.c_answers.specs.Status.{output, beside, someByte, orZero, survivorsOf, byteOf, markBytes};
+ghost use Rattle.c_answers.specs.Status.{output, beside, someByte, orZero, survivorsOf, markBytes};
 
 // ---- an answer into its outputs
 

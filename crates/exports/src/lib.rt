@@ -16,7 +16,7 @@ ghost use mathlib.Core.List.{map};
 ghost use Rattle.game.specs.Finite.{all};
 ghost use Rattle.game.specs.Game.{strategy as named};
 ghost use lib.ListN.{length};
-ghost use Rattle.refusal.specs.Told.{unless, toldOf, status};
+ghost use Rattle.refusal.specs.Told.{unless, toldOf, status, byteOf};
 ghost use Rattle.written_lists.specs.Outputs.{over};
 ghost use Rattle.payoff_order.specs.Order.{finite};
 ghost use Rattle.utility.specs.Value.{utilityAnswer};
@@ -34,7 +34,7 @@ ghost use Rattle.response_list.specs.Responses.{recordsAnswer, recordsWritten};
 ghost use Rattle.deposit_format.specs.Answers.{readAnswer, readCounts, readPayoffs, writeAnswer, writeBytes};
 ghost use Rattle.catalogue.specs.Answers.{numberAnswer};
 ghost use Rattle.candidates.specs.Checks.{incentives, verdictOf, minimax};
-ghost use Rattle.c_answers.specs.Status.{output, beside, someByte, orZero, partStart, partLength, byteOf, survivorsOf, markBytes};
+ghost use Rattle.c_answers.specs.Status.{output, beside, someByte, orZero, partStart, partLength, survivorsOf, markBytes};
 ghost use Rattle.exports.specs.Interface.{interface};
 
 // The number of this interface, SIGVANYOR_INTERFACE of the header. It goes up with each change of a

@@ -1,14 +1,16 @@
 -- What a caller knows once it knows what an answer told: which refusal applies, or none and the values; and the answer itself.
 -- Assumes nothing.
 use mathlib.Core.Path.{_≡_, refl, sym, ap, _∙_}
+use mathlib.Core.Bool.{Bool, true, false, not}
 use mathlib.Core.Logic.{_↔_}
 use mathlib.Core.Option.{none, some}
-use Prim.Native.Nat.{ℕ}
+use Prim.Native.Nat.{ℕ, _≤_}
 use native.Mathlib.Omega.{arith}
-use lib.Dec.{T}
+use lib.Dec.{T, eqb}
+use mir.Val.{boolByte}
 use Rattle.refusal.specs.Refusal.{Refusal, numberOf, _then_}
 use Rattle.refusal.specs.declared.NormalFormError.{NormalFormError}
-use Rattle.refusal.specs.Told.{Told, values, refused, unless, toldOf, status, tells, toldUnit, toldUsize, toldBool, toldListing}
+use Rattle.refusal.specs.Told.{Told, values, refused, unless, toldOf, status, tells, toldUnit, toldUsize, toldBool, toldListing, byteOf}
 use Rattle.refusal.specs.declared.UnitResult.{UnitResult}
 use Rattle.refusal.specs.declared.UnitResult.the-variants.{Ok as ok, Err as err}
 use Rattle.refusal.specs.declared.UsizeResult.{UsizeResult}
@@ -87,3 +89,20 @@ told-listing-once (okListing k) (okListing l) h = ap okListing (cc)
 told-listing-once (okListing k) (errListing e) h = absurd (apart k (numberOf e) h)
 told-listing-once (errListing d) (okListing l) h = absurd (apart l (numberOf d) (sym h))
 told-listing-once (errListing d) (errListing e) h = ap errListing (number-once d e (cc))
+
+-- ---- a truth value as a byte
+
+-- the byte that the code makes of one
+pub byte-is : (b : Bool) → boolByte b ≡ byteOf b
+byte-is true = refl
+byte-is false = refl
+
+-- a byte that is not 0 says yes, and so the byte tells which it was
+pub byte-back : (b : Bool) → not (eqb (byteOf b) 0) ≡ b
+byte-back true = refl
+byte-back false = refl
+
+-- it is at most 1
+pub byte-most : (b : Bool) → byteOf b ≤ 1
+byte-most true = omega arith
+byte-most false = omega arith

@@ -67,3 +67,8 @@ toldListing (errListing e) = refused (numberOf e)
 abbrev pub optionUsize : UsizeOption → Option ℕ
 optionUsize None = none
 optionUsize (Some n) = some n
+
+-- a truth value as a byte: 1, or 0 for no
+abbrev pub byteOf : Bool → ℕ
+byteOf true = 1
+byteOf false = 0

@@ -1,10 +1,10 @@
 -- `c_outputs::bool_into` meets its contract, by the two cases of the answer. Assumes nothing.
 use mathlib.Core.Path.{sym, ap, _∙_}
 use borrow.Author.Needs.{needs}
-use Rattle.refusal.specs.Told.{toldOf, toldBool, status}
+use Rattle.refusal.specs.Told.{toldOf, toldBool, status, byteOf}
 use Rattle.refusal.specs.declared.BoolResult.{BoolResult}
-use Rattle.c_answers.specs.Status.{output, byteOf}
-use Rattle.c_answers.proofs.Outputs.{byte-is}
+use Rattle.c_answers.specs.Status.{output}
+use Rattle.refusal.proofs.Told.{byte-is}
 use Rattle.c_outputs.proofs.bool_into.Statement.{statement}
 use Rattle.c_outputs.proofs.bool_into.Tie as tie
 

@@ -6,8 +6,9 @@ use native.Mathlib.Omega.{arith}
 use borrow.Author.Needs.{needs}
 use lib.ListN.{getD}
 use Rattle.payoff_tables.specs.Limits.{maxMarks}
-use Rattle.c_answers.specs.Status.{byteOf}
-use Rattle.c_answers.proofs.Outputs.{Made, made-more, made-all, byte-is}
+use Rattle.refusal.specs.Told.{byteOf}
+use Rattle.refusal.proofs.Told.{byte-is}
+use Rattle.c_answers.proofs.Outputs.{Made, made-more, made-all}
 use Rattle.c_outputs.proofs.bytes_of.Statement.{statement}
 use Rattle.c_outputs.proofs.bytes_of.Tie as tie
 
