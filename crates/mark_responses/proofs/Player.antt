@@ -18,11 +18,12 @@ use Rattle.refusal.specs.Told.{byteOf}
 use Rattle.payoff_tables.specs.Limits.{maxPlayers, maxStrategies, maxCells}
 use Rattle.payoff_tables.specs.Table.{stride, cellRank, tableGame}
 use Rattle.payoff_tables.specs.Meaning.{Shape, Table}
-use Rattle.payoff_tables.proofs.Offsets.{product-split, product-drop, drop-at-most, drop-positive, take-positive, take-at-most, getD-map, getD-mem, stride-positive, nth-profile, nth-choice, walk-at-most, walk-below}
-use Rattle.payoff_tables.proofs.Walk.{shape-some, shape-room, step-room, row-start}
+use Rattle.payoff_tables.proofs.Offsets.{product-split, product-drop, drop-at-most, drop-positive, take-positive, take-at-most, getD-map, getD-mem, stride-positive, walk-at-most}
+use Rattle.payoff_tables.proofs.Walk.{shape-some, shape-room, step-room}
 use Rattle.marks.specs.Marks.{marked}
 use Rattle.strategy_row.specs.Row.{rowBest}
-use Rattle.strategy_row.proofs.Row.{rowBest-T, row-best}
+use Rattle.strategy_row.proofs.Row.{rowBest-T}
+use Rattle.strategy_row.proofs.Change.{best-row}
 use Rattle.response_marks.specs.Marks.{settled}
 use Rattle.mark_responses.specs.Sweep.{markedOf, stepRank, rowTop, Nested, Within, CellOf, Marked, Wants, RowsMarked, choiceAt, Ready, PlayerMarked}
 
@@ -121,11 +122,7 @@ module _ (counts : List ℕ) (payoffs : List Float) (survivors : List Bool) (tab
   settled-row : (k : ℕ) → k < product counts
       → best k ≡ rowBest payoffs survivors (p * maxStrategies) ((k - choiceAt counts p k * s) * P + p) (s * P) c (choiceAt counts p k)
   unfolding settled
-  settled-row k h =
-      let x = nth-profile counts k h in
-      sym (row-best (table .shape) payoffs survivors x p mine (choice (getD (profiles counts) k []) p) (x .fits p mine))
-      ∙ ap₂ (λ (b t : ℕ). rowBest payoffs survivors (p * maxStrategies) (b * P + p) (s * P) c t)
-      (sym (row-start counts k p h mine (table .shape .low p mine))) (nth-choice counts k p h mine)
+  settled-row k h = best-row (table .shape) k p h mine payoffs survivors
 
   -- where the choice is not marked, it is none
   unsettled : (k : ℕ) → k < product counts → (T (getD survivors (p * maxStrategies + choiceAt counts p k) false) → ⊥) → byteOf (best k) ≡ 0

@@ -1,18 +1,22 @@
 -- A list put into its place from its last element to its first, and the lists of the profiles that pass a test, one after the other as far as
 -- there is room. Assumes nothing.
 use mathlib.Core.Path.{_≡_, refl, sym, ap, _∙_, subst}
-use mathlib.Core.Bool.{Bool, true, false, cond}
+use mathlib.Core.Bool.{Bool, true, false, cond, not}
 use mathlib.Core.List.{List, [], _∷_, _++_, flatMap, append-assoc, append-nil}
+use mathlib.Core.Logic.{_↔_, Iff·rfl}
 use Prim.Native.Nat.{ℕ, zero, suc, _+_, _*_, _-_, min, _≤_, _<_}
 use native.Mathlib.Nat.{add-suc, add-mul, zero-mul, one-mul, mul-le-mul-right}
 use native.Mathlib.Numerals.{add-one}
 use native.Mathlib.Omega.{arith}
+use lib.Dec.{T, eqb}
 use lib.ListN.{length, getD, set, take, drop, length-append, length-drop, take-append-drop, drop-of-length-le}
-use lib.Seq.{take-all, take-suc, drop-cons, drop-length, set-at, length-take-le, take-append-le, take-at, drop-append-add, drop-drop}
-use Rattle.game.specs.Finite.{filter}
-use Rattle.game.proofs.Finite.{flatMap-last}
+use lib.Seq.{take-all, take-suc, drop-cons, drop-length, set-at, length-take-le, take-append-le, take-at, drop-append-seam, drop-append-add, drop-drop}
+use Rattle.game.specs.Finite.{all, below, filter}
+use Rattle.game.specs.Game.{profiles}
+use Rattle.game.proofs.Finite.{no-T, eqb-T, all-T, below-mem, flatMap-last}
 use Rattle.written_lists.specs.Outputs.{over}
 use Rattle.written_lists.proofs.Outputs.{over-length}
+use Rattle.profile_listing.specs.Entry.{Before}
 
 -- ---- a list into its place, from its last element to its first
 
@@ -39,6 +43,12 @@ module _ {A : Type 0} (x out : List A) (n at : ℕ) where
   pub fill-length : (p : ℕ) → length x ≡ n → p ≤ n → at + n ≤ length out → length (filled p) ≡ length out
   fill-length p long most room =
       rw (length-append, length-append, length-take-le (at + p) out (omega arith), length-drop, length-drop) (omega arith)
+
+-- ---- the marks of a profile
+
+pub marked-T : (marks : List ℕ) (at number : ℕ)
+    → T (all (λ p. not (eqb (getD marks (at + p) 0) 0)) (below number)) ↔ ((p : ℕ) → p < number → getD marks (at + p) 0 ≡ 0 → ⊥)
+marked-T marks at number = simp (all-T, below-mem, no-T, eqb-T) Iff·rfl
 
 -- ---- the elements that pass a test
 
@@ -139,3 +149,29 @@ module _ {A : Type 0} (e : List ℕ → List A) (f : List ℕ → Bool) (ps : Li
                   is ∙ ap (λ (ys : List A). take (number * n) ys ++ (e x ++ drop (number * n + n) ys)) stand
                   ∙ rw (first, after, grown) (sym (append-assoc done (e x) (drop (number * n + n) old)) ∙ ap (λ (m : ℕ). (done ++ e x) ++ drop m old) (sym long));
             }
+
+-- ---- after an entry
+
+-- The entry that was written stands before the next.
+pub entry-before : (counts out out′ : List ℕ) (k written : ℕ) → length (getD (profiles counts) k []) ≡ length counts
+    → written * length counts + length counts ≤ length out
+    → out′ ≡ take (written * length counts) out ++ (getD (profiles counts) k [] ++ drop (written * length counts + length counts) out)
+    → Before counts (k + 1) out′ ((written + 1) * length counts)
+entry-before counts out out′ k written size room is =
+    let n : ℕ = length counts in
+    let x : List ℕ = getD (profiles counts) k [] in
+    let rest : List ℕ = drop (written * n + n) out in
+    let next : (written + 1) * n ≡ written * n + n = omega (arith, add-mul written 1 n, one-mul n) in
+    let back : (written + 1) * n - n ≡ written * n = omega (arith, next) in
+    let long : length (take (written * n) out) ≡ written * n = length-take-le (written * n) out (omega (arith, room)) in
+    let one : k + 1 - 1 ≡ k = omega arith in
+    record {
+      later = omega arith;
+      room = omega (arith, next);
+      stands =
+          ap (λ (ys : List ℕ). take n (drop ((written + 1) * n - n) ys)) is
+          ∙ ap (λ (m : ℕ). take n (drop m (take (written * n) out ++ (x ++ rest)))) (back ∙ sym long)
+          ∙ ap (take n) (drop-append-seam (take (written * n) out) (x ++ rest))
+          ∙ take-at x rest n size
+          ∙ ap (λ (m : ℕ). getD (profiles counts) m []) (sym one);
+    }

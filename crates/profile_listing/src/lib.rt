@@ -1,17 +1,22 @@
-// The profiles that are found, written down: P choices and P payoffs of each, one after the other, in profile order, as far as both outputs
-// hold them whole.
+// The profiles of a table by their marks, a byte for each cell, written down: P choices and P payoffs of each, one after the other, in profile
+// order, as far as both outputs hold them whole.
 use refusal::Listed;
 ghost use mathlib.Core.Path.{_≡_};
+ghost use mathlib.Core.Bool.{not};
 ghost use mathlib.Core.List.{[], _++_, map};
-ghost use Prim.Native.Nat.{_+_, _<_, _≤_};
+ghost use Prim.Native.Nat.{_+_, _-_, _<_, _≤_};
+ghost use lib.Dec.{eqb};
 ghost use lib.ListN.{length, getD, take, drop};
-ghost use Rattle.game.specs.Finite.{product};
+ghost use Rattle.game.specs.Finite.{all, below, product};
 ghost use Rattle.game.specs.Game.{profiles};
 ghost use Rattle.written_lists.specs.Outputs.{joined, over};
 ghost use Rattle.written_lists.specs.Listing.{listedOf};
 ghost use Rattle.payoff_tables.specs.Table.{profilePart};
 ghost use Rattle.payoff_tables.specs.Meaning.{Shape, Table};
-ghost use Rattle.profile_listing.specs.Found.{foundProfiles};
+ghost use Rattle.response_marks.specs.Marks.{markedProfiles};
+ghost use Rattle.profile_listing.specs.Entry.{Before};
+
+// ---- one entry
 
 // Writes the choices of the profile with offset k, from `at` on.
 fn put_choices(counts: &[usize], k: usize, choices: &mut [usize], at: usize)
@@ -30,6 +35,31 @@ fn put_choices(counts: &[usize], k: usize, choices: &mut [usize], at: usize)
     }
 }
 
+// The same, where the choices of the profile before it stand before `at`: one step from these, without a division.
+fn put_next_choices(counts: &[usize], k: usize, choices: &mut [usize], at: usize)
+    requires { ⌜ Shape (now counts) ⌝ }
+    requires { ⌜ k < product (now counts) ⌝ }
+    requires { ⌜ at + length (now counts) ≤ length (now choices) ⌝ }
+    requires { ⌜ Before (now counts) k (now choices) at ⌝ }
+    ensures { λ r. ⌜ now (choices .exit) ≡ take at (now (choices .entry)) ++ (getD (profiles (now (counts .entry))) k [] ++ drop (at + length (now (counts .entry))) (now (choices .entry))) ⌝ }
+{
+    let players = counts.len();
+    let mut up = true;
+    let mut p = players;
+    while 0 < p {
+        p -= 1;
+        let mut choice = choices[at - players + p];
+        if up {
+            choice += 1;
+            up = choice == counts[p];
+            if up {
+                choice = 0;
+            }
+        }
+        choices[at + p] = choice;
+    }
+}
+
 // Writes its payoffs, from `at` on.
 fn put_utilities(counts: &[usize], payoffs: &[f64], k: usize, utilities: &mut [f64], at: usize)
     requires { ⌜ Table (now counts) (now payoffs) ⌝ }
@@ -45,34 +75,78 @@ fn put_utilities(counts: &[usize], payoffs: &[f64], k: usize, utilities: &mut [f
     }
 }
 
-// Writes the first of those that are found, as many as both outputs hold whole: how many are found, and how many are written. Elements past
-// those written keep their contents. The caller proves that the table has none of refusals 1 to 7 and `profiles` profiles, and that `found` has
-// a place for each.
-pub fn list_found(
+// Writes the choices and the payoffs of the profile with offset k, from `at` on. Where `after` is k, the choices of the profile before it stand
+// before `at`.
+fn put_entry(
     counts: &[usize],
     payoffs: &[f64],
-    found: &[bool],
+    k: usize,
+    after: usize,
+    choices: &mut [usize],
+    utilities: &mut [f64],
+    at: usize,
+)
+    requires { ⌜ Table (now counts) (now payoffs) ⌝ }
+    requires { ⌜ k < product (now counts) ⌝ }
+    requires { ⌜ (at + length (now counts) ≤ length (now choices)) × (at + length (now counts) ≤ length (now utilities)) ⌝ }
+    requires { ⌜ (k ≡ after → Before (now counts) k (now choices) at) ⌝ }
+    ensures { λ r. ⌜ now (choices .exit) ≡ take at (now (choices .entry)) ++ (getD (profiles (now (counts .entry))) k [] ++ drop (at + length (now (counts .entry))) (now (choices .entry))) ⌝ }
+    ensures { λ r. ⌜ now (utilities .exit) ≡ take at (now (utilities .entry)) ++ (profilePart (now (counts .entry)) (now (payoffs .entry)) (getD (profiles (now (counts .entry))) k []) ++ drop (at + length (now (counts .entry))) (now (utilities .entry))) ⌝ }
+{
+    put_utilities(counts, payoffs, k, utilities, at);
+    if k == after {
+        put_next_choices(counts, k, choices, at);
+        return;
+    }
+    put_choices(counts, k, choices, at);
+}
+
+// ---- all entries
+
+// Whether none of the marks at `number` places from `at` on is 0.
+fn all_marked(marks: &[u8], at: usize, number: usize) -> bool
+    requires { ⌜ at + number ≤ length (now marks) ⌝ }
+    ensures { λ r. ⌜ r ≡ all (λ p. not (eqb (getD (now (marks .entry)) (at + p) 0) 0)) (below number) ⌝ }
+{
+    let mut p = 0;
+    while p < number {
+        if marks[at + p] == 0 {
+            return false;
+        }
+        p += 1;
+    }
+    true
+}
+
+// Writes the first of the profiles that have no 0 among their P marks, as many as both outputs hold whole: how many there are, and how many are
+// written. Elements past those written keep their contents. The caller proves that the table has none of refusals 1 to 7 and `profiles`
+// profiles, and that there is a mark for each cell.
+pub fn list_marked(
+    counts: &[usize],
+    payoffs: &[f64],
+    marks: &[u8],
     profiles: usize,
     choices: &mut [usize],
     utilities: &mut [f64],
 ) -> Listed
     requires { ⌜ Table (now counts) (now payoffs) ⌝ }
-    requires { ⌜ (profiles ≡ product (now counts)) × (profiles ≤ length (now found)) ⌝ }
-    ensures { λ r. ⌜ r ≡ listedOf (foundProfiles (now (counts .entry)) (now (found .entry))) (length (now (counts .entry))) (length (now (choices .entry))) (length (now (utilities .entry))) ⌝ }
-    ensures { λ r. ⌜ now (choices .exit) ≡ over (joined (r .written) (foundProfiles (now (counts .entry)) (now (found .entry)))) (now (choices .entry)) ⌝ }
-    ensures { λ r. ⌜ now (utilities .exit) ≡ over (joined (r .written) (map (profilePart (now (counts .entry)) (now (payoffs .entry))) (foundProfiles (now (counts .entry)) (now (found .entry))))) (now (utilities .entry)) ⌝ }
+    requires { ⌜ (profiles ≡ product (now counts)) × (length (now payoffs) ≤ length (now marks)) ⌝ }
+    ensures { λ r. ⌜ r ≡ listedOf (markedProfiles (now (counts .entry)) (now (marks .entry))) (length (now (counts .entry))) (length (now (choices .entry))) (length (now (utilities .entry))) ⌝ }
+    ensures { λ r. ⌜ now (choices .exit) ≡ over (joined (r .written) (markedProfiles (now (counts .entry)) (now (marks .entry)))) (now (choices .entry)) ⌝ }
+    ensures { λ r. ⌜ now (utilities .exit) ≡ over (joined (r .written) (map (profilePart (now (counts .entry)) (now (payoffs .entry))) (markedProfiles (now (counts .entry)) (now (marks .entry))))) (now (utilities .entry)) ⌝ }
 {
     let players = counts.len();
     let room = table::lesser(choices.len(), utilities.len());
     let mut total: usize = 0;
     let mut written: usize = 0;
+    let mut after = profiles;
     let mut k = 0;
     while k < profiles {
-        if found[k] {
+        if all_marked(marks, k * players, players) {
             let at = written * players;
             if at + players <= room {
-                put_choices(counts, k, choices, at);
-                put_utilities(counts, payoffs, k, utilities, at);
+                put_entry(counts, payoffs, k, after, choices, utilities, at);
+                after = k + 1;
                 written += 1;
             }
             total += 1;

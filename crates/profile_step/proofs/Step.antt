@@ -87,7 +87,7 @@ step-down-carry cs x p q e h l r = rw e (go cs x q h l r)
 -- ---- the list of choices
 
 -- `carried` by its two tests: whether the players after had a next choice, and whether this one has room
-abbrev tested : ℕ → List ℕ → Bool → Bool → Advanced
+abbrev pub tested : ℕ → List ℕ → Bool → Bool → Advanced
 tested s x more room =
     cond more
     (record { more = true; profile = s ∷ x })

@@ -1,2 +1,2 @@
--- The laws of this crate's definitions.
-pub mod Listing
+-- What the proofs of the functions share.
+pub mod Best

@@ -1,58 +1,204 @@
-// Equilibria in pure strategies: the profiles in which no player's change of only its own choice gives that player a greater payoff.
-// The walk is over marks, with profiles of marked choices and changes to marked strategies; a table is the case where every strategy is
-// marked. `equilibrium_search` finds them, and `profile_listing` writes them down.
+// Equilibria in pure strategies: the profiles in which no player's change of only its own choice gives that player a greater payoff. All is over
+// marks of strategies, with profiles of marked choices and changes to marked strategies; a table is the case where every strategy is marked.
+// `mark_responses` marks every cell in which the choice is a best response, and `profile_listing` writes down the profiles that have no 0
+// among their marks.
 use refusal::BoolResult;
 use refusal::Listed;
 use refusal::ListingResult;
+use refusal::NormalFormError;
 use refusal::UsizeResult;
 use table::MAX_CELLS;
 use table::MAX_MARKS;
+use table::MAX_STRATEGIES;
 ghost use mathlib.Core.Path.{_≡_};
-ghost use mathlib.Core.List.{map};
-ghost use lib.ListN.{length};
-ghost use Rattle.game.specs.Finite.{product};
+ghost use mathlib.Core.List.{[], map};
+ghost use Prim.Native.Nat.{ℕ, _<_, _≤_};
+ghost use lib.ListN.{length, getD};
+ghost use Rattle.game.specs.Finite.{all, below, product};
+ghost use Rattle.game.specs.Game.{profiles};
 ghost use Rattle.game.specs.Solution.{equilibria};
 ghost use Rattle.refusal.specs.Told.{toldBool, toldListing};
 ghost use Rattle.written_lists.specs.Outputs.{joined, over};
 ghost use Rattle.written_lists.specs.Listing.{listedOf};
 ghost use Rattle.payoff_tables.specs.Limits.{maxMarks};
-ghost use Rattle.payoff_tables.specs.Table.{profilePart, tableGame};
+ghost use Rattle.payoff_tables.specs.Table.{profilePart, stride as strideOf, tableGame};
 ghost use Rattle.payoff_tables.specs.Meaning.{Table};
 ghost use Rattle.marks.specs.Marks.{marked};
-ghost use Rattle.equilibria.specs.Answers.{isEquilibriumAnswer, equilibriaAnswer, equilibriaChoices, equilibriaUtilities};
+ghost use Rattle.equilibria.specs.Answers.{tableEquilibria, isEquilibriumAnswer, equilibriaAnswer, equilibriaChoices, equilibriaUtilities};
+ghost use Rattle.response_marks.specs.Marks.{settled};
+ghost use Rattle.response_marks.specs.Answers.{fromMarksAnswer, fromMarksChoices, fromMarksUtilities};
+ghost use Rattle.mark_responses.specs.Sweep.{Ready};
 
-// Tables of at most this many cells are walked with smaller arrays, which take less time to clear.
-const FEW_CELLS: usize = 2048;
+// ---- all equilibria among marks, by how many cells the table has
 
-// How many equilibria there are among the marks, and how many of them are written: the first that both outputs hold whole, in profile order, P
-// choices of each into `choices`, and P payoffs of each, bits kept, into `utilities`. Elements past those written keep their contents. The
-// caller proves that the table has none of refusals 1 to 7 and `profiles` profiles, and that there are as many marks as there may be.
-pub fn marked_equilibria(
+// Tables of at most this many cells are marked in an array of as many bytes, and the others in one for any table: so a small table clears and
+// holds on the stack hardly more than it needs. Each array is in a function of its own, since a frame holds all the arrays of its function.
+pub const SMALL_CELLS: usize = 64;
+
+pub const MIDDLE_CELLS: usize = 2048;
+
+// How many equilibria there are among the marks of strategies, and how many of them are written: the first that both outputs hold whole, in
+// profile order, P choices of each into `choices`, and P payoffs of each, bits kept, into `utilities`. Elements past those written keep their
+// contents. The marks of cells go into `marks`. The caller proves that the table has none of refusals 1 to 7 and `profiles` profiles, that there
+// are as many marks of strategies as there may be, a byte for each cell, and that the bytes of choices that are not marked are 0.
+fn list_swept(
     counts: &[usize],
     payoffs: &[f64],
-    marks: &[bool],
+    survivors: &[bool],
+    profiles: usize,
+    marks: &mut [u8],
+    choices: &mut [usize],
+    utilities: &mut [f64],
+) -> Listed
+    requires { ⌜ Table (now counts) (now payoffs) ⌝ }
+    requires { ⌜ length (now survivors) ≡ maxMarks ⌝ }
+    requires { ⌜ profiles ≡ product (now counts) ⌝ }
+    requires { ⌜ length (now payoffs) ≤ length (now marks) ⌝ }
+    requires { ⌜ ((p : ℕ) → p < length (now counts) → Ready (now counts) (now survivors) p (now marks)) ⌝ }
+    ensures { λ r. ⌜ r ≡ listedOf (equilibria (tableGame (now (counts .entry)) (now (payoffs .entry))) (marked (now (survivors .entry)))) (length (now (counts .entry))) (length (now (choices .entry))) (length (now (utilities .entry))) ⌝ }
+    ensures { λ r. ⌜ now (choices .exit) ≡ over (joined (r .written) (equilibria (tableGame (now (counts .entry)) (now (payoffs .entry))) (marked (now (survivors .entry))))) (now (choices .entry)) ⌝ }
+    ensures { λ r. ⌜ now (utilities .exit) ≡ over (joined (r .written) (map (profilePart (now (counts .entry)) (now (payoffs .entry))) (equilibria (tableGame (now (counts .entry)) (now (payoffs .entry))) (marked (now (survivors .entry)))))) (now (utilities .entry)) ⌝ }
+{
+    mark_responses::mark_all(counts, payoffs, survivors, profiles, marks);
+    profile_listing::list_marked(counts, payoffs, marks, profiles, choices, utilities)
+}
+
+// The same with bytes of its own, for a table of at most 64 cells,
+pub fn small_equilibria(
+    counts: &[usize],
+    payoffs: &[f64],
+    survivors: &[bool],
     profiles: usize,
     choices: &mut [usize],
     utilities: &mut [f64],
 ) -> Listed
     requires { ⌜ Table (now counts) (now payoffs) ⌝ }
-    requires { ⌜ length (now marks) ≡ maxMarks ⌝ }
+    requires { ⌜ length (now survivors) ≡ maxMarks ⌝ }
     requires { ⌜ profiles ≡ product (now counts) ⌝ }
-    ensures { λ r. ⌜ r ≡ listedOf (equilibria (tableGame (now (counts .entry)) (now (payoffs .entry))) (marked (now (marks .entry)))) (length (now (counts .entry))) (length (now (choices .entry))) (length (now (utilities .entry))) ⌝ }
-    ensures { λ r. ⌜ now (choices .exit) ≡ over (joined (r .written) (equilibria (tableGame (now (counts .entry)) (now (payoffs .entry))) (marked (now (marks .entry))))) (now (choices .entry)) ⌝ }
-    ensures { λ r. ⌜ now (utilities .exit) ≡ over (joined (r .written) (map (profilePart (now (counts .entry)) (now (payoffs .entry))) (equilibria (tableGame (now (counts .entry)) (now (payoffs .entry))) (marked (now (marks .entry)))))) (now (utilities .entry)) ⌝ }
+    requires { ⌜ length (now payoffs) ≤ 64 ⌝ }
+    ensures { λ r. ⌜ r ≡ listedOf (equilibria (tableGame (now (counts .entry)) (now (payoffs .entry))) (marked (now (survivors .entry)))) (length (now (counts .entry))) (length (now (choices .entry))) (length (now (utilities .entry))) ⌝ }
+    ensures { λ r. ⌜ now (choices .exit) ≡ over (joined (r .written) (equilibria (tableGame (now (counts .entry)) (now (payoffs .entry))) (marked (now (survivors .entry))))) (now (choices .entry)) ⌝ }
+    ensures { λ r. ⌜ now (utilities .exit) ≡ over (joined (r .written) (map (profilePart (now (counts .entry)) (now (payoffs .entry))) (equilibria (tableGame (now (counts .entry)) (now (payoffs .entry))) (marked (now (survivors .entry)))))) (now (utilities .entry)) ⌝ }
 {
-    if payoffs.len() <= FEW_CELLS {
-        let mut known = [false; FEW_CELLS];
-        let mut found = [false; FEW_CELLS];
-        equilibrium_search::find(counts, payoffs, marks, profiles, &mut known, &mut found);
-        return profile_listing::list_found(counts, payoffs, &found, profiles, choices, utilities);
-    }
-    let mut known = [false; MAX_CELLS];
-    let mut found = [false; MAX_CELLS];
-    equilibrium_search::find(counts, payoffs, marks, profiles, &mut known, &mut found);
-    profile_listing::list_found(counts, payoffs, &found, profiles, choices, utilities)
+    let mut marks = [0u8; SMALL_CELLS];
+    list_swept(
+        counts,
+        payoffs,
+        survivors,
+        profiles,
+        &mut marks,
+        choices,
+        utilities,
+    )
 }
+
+// of at most 2,048,
+pub fn middle_equilibria(
+    counts: &[usize],
+    payoffs: &[f64],
+    survivors: &[bool],
+    profiles: usize,
+    choices: &mut [usize],
+    utilities: &mut [f64],
+) -> Listed
+    requires { ⌜ Table (now counts) (now payoffs) ⌝ }
+    requires { ⌜ length (now survivors) ≡ maxMarks ⌝ }
+    requires { ⌜ profiles ≡ product (now counts) ⌝ }
+    requires { ⌜ length (now payoffs) ≤ 2048 ⌝ }
+    ensures { λ r. ⌜ r ≡ listedOf (equilibria (tableGame (now (counts .entry)) (now (payoffs .entry))) (marked (now (survivors .entry)))) (length (now (counts .entry))) (length (now (choices .entry))) (length (now (utilities .entry))) ⌝ }
+    ensures { λ r. ⌜ now (choices .exit) ≡ over (joined (r .written) (equilibria (tableGame (now (counts .entry)) (now (payoffs .entry))) (marked (now (survivors .entry))))) (now (choices .entry)) ⌝ }
+    ensures { λ r. ⌜ now (utilities .exit) ≡ over (joined (r .written) (map (profilePart (now (counts .entry)) (now (payoffs .entry))) (equilibria (tableGame (now (counts .entry)) (now (payoffs .entry))) (marked (now (survivors .entry)))))) (now (utilities .entry)) ⌝ }
+{
+    let mut marks = [0u8; MIDDLE_CELLS];
+    list_swept(
+        counts,
+        payoffs,
+        survivors,
+        profiles,
+        &mut marks,
+        choices,
+        utilities,
+    )
+}
+
+// and of any number.
+pub fn marked_equilibria(
+    counts: &[usize],
+    payoffs: &[f64],
+    survivors: &[bool],
+    profiles: usize,
+    choices: &mut [usize],
+    utilities: &mut [f64],
+) -> Listed
+    requires { ⌜ Table (now counts) (now payoffs) ⌝ }
+    requires { ⌜ length (now survivors) ≡ maxMarks ⌝ }
+    requires { ⌜ profiles ≡ product (now counts) ⌝ }
+    ensures { λ r. ⌜ r ≡ listedOf (equilibria (tableGame (now (counts .entry)) (now (payoffs .entry))) (marked (now (survivors .entry)))) (length (now (counts .entry))) (length (now (choices .entry))) (length (now (utilities .entry))) ⌝ }
+    ensures { λ r. ⌜ now (choices .exit) ≡ over (joined (r .written) (equilibria (tableGame (now (counts .entry)) (now (payoffs .entry))) (marked (now (survivors .entry))))) (now (choices .entry)) ⌝ }
+    ensures { λ r. ⌜ now (utilities .exit) ≡ over (joined (r .written) (map (profilePart (now (counts .entry)) (now (payoffs .entry))) (equilibria (tableGame (now (counts .entry)) (now (payoffs .entry))) (marked (now (survivors .entry)))))) (now (utilities .entry)) ⌝ }
+{
+    let mut marks = [0u8; MAX_CELLS];
+    list_swept(
+        counts,
+        payoffs,
+        survivors,
+        profiles,
+        &mut marks,
+        choices,
+        utilities,
+    )
+}
+
+// ---- one profile
+
+// Whether the player's choice in the profile with offset k is a best response.
+fn is_best(
+    counts: &[usize],
+    payoffs: &[f64],
+    survivors: &[bool],
+    player: usize,
+    stride: usize,
+    k: usize,
+) -> bool
+    requires { ⌜ Table (now counts) (now payoffs) ⌝ }
+    requires { ⌜ length (now survivors) ≡ maxMarks ⌝ }
+    requires { ⌜ (player < length (now counts)) × (k < product (now counts)) ⌝ }
+    requires { ⌜ stride ≡ strideOf (now counts) player ⌝ }
+    ensures { λ r. ⌜ r ≡ settled (tableGame (now (counts .entry)) (now (payoffs .entry))) (marked (now (survivors .entry))) (getD (profiles (now (counts .entry))) k []) player ⌝ }
+{
+    let players = counts.len();
+    let count = counts[player];
+    let choice = k / stride % count;
+    let place = player * MAX_STRATEGIES;
+    if !survivors[place + choice] {
+        return false;
+    }
+    let start = (k - choice * stride) * players + player;
+    let step = stride * players;
+    let own = k * players + player;
+    strategy_row::unexceeded(payoffs, survivors, place, start, step, count, own)
+}
+
+// Whether every player's is.
+fn all_best(counts: &[usize], payoffs: &[f64], survivors: &[bool], k: usize) -> bool
+    requires { ⌜ Table (now counts) (now payoffs) ⌝ }
+    requires { ⌜ length (now survivors) ≡ maxMarks ⌝ }
+    requires { ⌜ k < product (now counts) ⌝ }
+    ensures { λ r. ⌜ r ≡ all (settled (tableGame (now (counts .entry)) (now (payoffs .entry))) (marked (now (survivors .entry))) (getD (profiles (now (counts .entry))) k [])) (below (length (now (counts .entry)))) ⌝ }
+{
+    let mut stride: usize = 1;
+    let mut p = counts.len();
+    while 0 < p {
+        p -= 1;
+        if !is_best(counts, payoffs, survivors, p, stride, k) {
+            return false;
+        }
+        stride *= counts[p];
+    }
+    true
+}
+
+// ---- the calls
 
 // Whether the profile is an equilibrium, or the first of 1 to 7, 11, and 12 in player order.
 pub fn is_equilibrium(counts: &[usize], payoffs: &[f64], profile: &[usize]) -> BoolResult
@@ -61,20 +207,34 @@ pub fn is_equilibrium(counts: &[usize], payoffs: &[f64], profile: &[usize]) -> B
     match table::offset(counts, payoffs, profile) {
         UsizeResult::Err(e) => BoolResult::Err(e),
         UsizeResult::Ok(k) => {
-            let marks = [true; MAX_MARKS];
-            let mut known = [false; 1];
-            let players = counts.len();
-            BoolResult::Ok(equilibrium_search::all_settled(
-                counts,
-                payoffs,
-                &marks,
-                &mut known,
-                players,
-                1,
-                k,
-            ))
+            let survivors = [true; MAX_MARKS];
+            BoolResult::Ok(all_best(counts, payoffs, &survivors, k))
         }
     }
+}
+
+// How many equilibria a table without refusals 1 to 7 has, and how many of them are written.
+fn table_equilibria(
+    counts: &[usize],
+    payoffs: &[f64],
+    profiles: usize,
+    choices: &mut [usize],
+    utilities: &mut [f64],
+) -> Listed
+    requires { ⌜ Table (now counts) (now payoffs) ⌝ }
+    requires { ⌜ profiles ≡ product (now counts) ⌝ }
+    ensures { λ r. ⌜ r ≡ listedOf (tableEquilibria (now (counts .entry)) (now (payoffs .entry))) (length (now (counts .entry))) (length (now (choices .entry))) (length (now (utilities .entry))) ⌝ }
+    ensures { λ r. ⌜ now (choices .exit) ≡ over (joined (r .written) (tableEquilibria (now (counts .entry)) (now (payoffs .entry)))) (now (choices .entry)) ⌝ }
+    ensures { λ r. ⌜ now (utilities .exit) ≡ over (joined (r .written) (map (profilePart (now (counts .entry)) (now (payoffs .entry))) (tableEquilibria (now (counts .entry)) (now (payoffs .entry))))) (now (utilities .entry)) ⌝ }
+{
+    let survivors = [true; MAX_MARKS];
+    if payoffs.len() <= SMALL_CELLS {
+        return small_equilibria(counts, payoffs, &survivors, profiles, choices, utilities);
+    }
+    if payoffs.len() <= MIDDLE_CELLS {
+        return middle_equilibria(counts, payoffs, &survivors, profiles, choices, utilities);
+    }
+    marked_equilibria(counts, payoffs, &survivors, profiles, choices, utilities)
 }
 
 // How many equilibria there are, and how many of them are written: the first that both outputs hold whole, each once, in profile order, P
@@ -93,11 +253,34 @@ pub fn equilibria(
     match table::table_profile_count(counts, payoffs) {
         UsizeResult::Err(e) => ListingResult::Err(e),
         UsizeResult::Ok(profiles) => {
-            let marks = [true; MAX_MARKS];
-            ListingResult::Ok(marked_equilibria(
+            ListingResult::Ok(table_equilibria(counts, payoffs, profiles, choices, utilities))
+        }
+    }
+}
+
+// The profiles that have no 0 among their P marks, told and written as `equilibria` does. Any byte but 0 is a mark, and bytes past the cells
+// are not read. Or the first of 1 to 7, and 13 where there are fewer marks than cells, and nothing is written.
+pub fn marked_profiles(
+    counts: &[usize],
+    payoffs: &[f64],
+    marks: &[u8],
+    choices: &mut [usize],
+    utilities: &mut [f64],
+) -> ListingResult
+    ensures { λ r. ⌜ toldListing r ≡ fromMarksAnswer (now (counts .entry)) (now (payoffs .entry)) (now (marks .entry)) (length (now (choices .entry))) (length (now (utilities .entry))) ⌝ }
+    ensures { λ r. ⌜ now (choices .exit) ≡ over (fromMarksChoices (now (counts .entry)) (now (payoffs .entry)) (now (marks .entry)) (length (now (choices .entry))) (length (now (utilities .entry)))) (now (choices .entry)) ⌝ }
+    ensures { λ r. ⌜ now (utilities .exit) ≡ over (fromMarksUtilities (now (counts .entry)) (now (payoffs .entry)) (now (marks .entry)) (length (now (choices .entry))) (length (now (utilities .entry)))) (now (utilities .entry)) ⌝ }
+{
+    match table::table_profile_count(counts, payoffs) {
+        UsizeResult::Err(e) => ListingResult::Err(e),
+        UsizeResult::Ok(profiles) => {
+            if marks.len() < payoffs.len() {
+                return ListingResult::Err(NormalFormError::OutputTooShort);
+            }
+            ListingResult::Ok(profile_listing::list_marked(
                 counts,
                 payoffs,
-                &marks,
+                marks,
                 profiles,
                 choices,
                 utilities,

@@ -1,10 +1,9 @@
 -- The listing from marks: on the marks that the sweep writes, whatever stands past them, it is the plain listing, answer and both outputs, for
 -- every table that is accepted. Assumes nothing.
-use mathlib.Core.Path.{_≡_, ap, ap₂, _∙_}
+use mathlib.Core.Path.{_≡_, sym, ap, ap₂, _∙_}
 use mathlib.Core.List.{List}
 use mathlib.Core.Option.{none}
 use Prim.Native.Nat.{ℕ, _≤_}
-use borrow.Author.Tests.{le-ltb}
 use lib.ListN.{length}
 use lib.Ieee.{Float}
 use Rattle.game.specs.Game.{whole}
@@ -16,7 +15,7 @@ use Rattle.payoff_tables.specs.Checks.{tableRefusal}
 use Rattle.equilibria.specs.Answers.{listingAnswer, listedChoices, listedUtilities, tableEquilibria, equilibriaAnswer, equilibriaChoices, equilibriaUtilities}
 use Rattle.response_marks.specs.Marks.{markedProfiles}
 use Rattle.response_marks.specs.Answers.{tableMarks, marksRefusal, marksWritten, fromMarksAnswer, fromMarksChoices, fromMarksUtilities}
-use Rattle.response_marks.proofs.Marks.{marks-fit, marks-length, marks-listed}
+use Rattle.response_marks.proofs.Marks.{marks-enough, marks-fit, marks-length, marks-listed}
 
 module _ (counts : List ℕ) (payoffs : List Float) (old : List ℕ) (h : tableRefusal counts payoffs ≡ none) (room : cells counts ≤ length old) where
   -- the bytes that the sweep leaves
@@ -26,19 +25,18 @@ module _ (counts : List ℕ) (payoffs : List Float) (old : List ℕ) (h : tableR
   -- they list the equilibria,
   same-profiles : markedProfiles counts swept ≡ tableEquilibria counts payoffs
   same-profiles =
-      ap (λ (xs : List ℕ). markedProfiles counts (over xs old)) (marks-fit counts payoffs (length old) h room .1)
+      ap (λ (xs : List ℕ). markedProfiles counts (over xs old)) (marks-fit counts payoffs (length old) (marks-enough counts payoffs (length old) h room) .1)
       ∙ marks-listed counts payoffs (whole (tableGame counts payoffs)) old
 
   -- and there are enough of them.
   same-length : length swept ≡ length old
   unfolding tableGame
   same-length =
-      ap (λ (xs : List ℕ). length (over xs old)) (marks-fit counts payoffs (length old) h room .1)
+      ap (λ (xs : List ℕ). length (over xs old)) (marks-fit counts payoffs (length old) (marks-enough counts payoffs (length old) h room) .1)
       ∙ over-length (tableMarks counts payoffs) old (rw (marks-length (tableGame counts payoffs) (whole (tableGame counts payoffs))) room)
 
   same-refusal : marksRefusal counts payoffs (length swept) ≡ tableRefusal counts payoffs
-  unfolding marksRefusal
-  same-refusal = rw (same-length, h, le-ltb (length old) (cells counts) room)
+  same-refusal = marks-enough counts payoffs (length swept) h (rw same-length room) ∙ sym h
 
   module _ (a b : ℕ) where
     pub same-answer : fromMarksAnswer counts payoffs swept a b ≡ equilibriaAnswer counts payoffs a b

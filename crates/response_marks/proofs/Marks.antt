@@ -23,6 +23,7 @@ use Rattle.game.proofs.Solution.{bestResponse-law, equilibrium-each}
 use Rattle.refusal.specs.Refusal.{numberOf}
 use Rattle.refusal.specs.Told.{values, refused, byteOf}
 use Rattle.refusal.specs.declared.NormalFormError.{NormalFormError}
+use Rattle.refusal.specs.declared.NormalFormError.the-variants.{OutputTooShort}
 use Rattle.refusal.proofs.Told.{byte-back}
 use Rattle.written_lists.specs.Outputs.{over}
 use Rattle.payoff_tables.specs.Table.{cells, offset, cell, tableGame}
@@ -113,26 +114,36 @@ marks-same g m n same =
     ap byteOf (same-test (bestResponse g m p x (choice x p)) (bestResponse g n p x (choice x p)) (Iff·trans (bestResponse-law g m p x (choice x p))
     (Iff·trans (to m n same, to n m (λ q t a b. Iff·symm (same q t a b))) (Iff·symm (bestResponse-law g n p x (choice x p))))))))
 
--- ---- what the call answers, by what refuses
+-- ---- what refuses a buffer of n bytes
 
 module _ (counts : List ℕ) (payoffs : List Float) (n : ℕ) where
   -- the table is refused,
-  pub marks-refused : (e : NormalFormError) → tableRefusal counts payoffs ≡ some e
-      → (refused (numberOf e) ≡ marksAnswer counts payoffs n) × (marksWritten counts payoffs n ≡ [])
-  unfolding marksRefusal marksAnswer marksWritten
-  marks-refused e h = rw h (refl, refl)
+  pub marks-none : (e : NormalFormError) → tableRefusal counts payoffs ≡ some e → marksRefusal counts payoffs n ≡ some e
+  unfolding marksRefusal
+  marks-none e h = rw h refl
 
   module _ (h : tableRefusal counts payoffs ≡ none) where
     -- there are too few bytes,
-    pub marks-short : n < cells counts → (refused 13 ≡ marksAnswer counts payoffs n) × (marksWritten counts payoffs n ≡ [])
-    unfolding marksRefusal marksAnswer marksWritten
-    marks-short l = rw (h, lt-ltb n (cells counts) l) (refl, refl)
+    pub marks-few : n < cells counts → marksRefusal counts payoffs n ≡ some OutputTooShort
+    unfolding marksRefusal
+    marks-few l = rw (h, lt-ltb n (cells counts) l) refl
 
-    -- and there are enough.
-    pub marks-fit : cells counts ≤ n
-        → (values (ones (tableMarks counts payoffs)) ≡ marksAnswer counts payoffs n) × (marksWritten counts payoffs n ≡ tableMarks counts payoffs)
-    unfolding marksRefusal marksAnswer marksWritten
-    marks-fit l = rw (h, le-ltb n (cells counts) l) (refl, refl)
+    -- or nothing does.
+    pub marks-enough : cells counts ≤ n → marksRefusal counts payoffs n ≡ none
+    unfolding marksRefusal
+    marks-enough l = rw (h, le-ltb n (cells counts) l) refl
+
+  -- What the sweep answers and writes where something does,
+  pub marks-refused : (e : NormalFormError) → marksRefusal counts payoffs n ≡ some e
+      → (refused (numberOf e) ≡ marksAnswer counts payoffs n) × (marksWritten counts payoffs n ≡ [])
+  unfolding marksAnswer marksWritten
+  marks-refused e h = rw h (refl, refl)
+
+  -- and where nothing does.
+  pub marks-fit : marksRefusal counts payoffs n ≡ none
+      → (values (ones (tableMarks counts payoffs)) ≡ marksAnswer counts payoffs n) × (marksWritten counts payoffs n ≡ tableMarks counts payoffs)
+  unfolding marksAnswer marksWritten
+  marks-fit h = rw h (refl, refl)
 
 -- the first bytes of what is written are the marks
 pub take-marks : (g : Game) (m : Marks) (old : List ℕ) → take (cells (g .counts)) (over (responseMarks g m) old) ≡ responseMarks g m

@@ -9,6 +9,7 @@ use lib.ListN.{length, take, replicate}
 use lib.Ieee.{Float}
 use Rattle.game.specs.Game.{whole}
 use Rattle.refusal.specs.Told.{Told, toldUsize, values, refused}
+use Rattle.refusal.specs.declared.NormalFormError.the-variants.{OutputTooShort}
 use Rattle.refusal.proofs.Told.{told-refused}
 use Rattle.payoff_tables.specs.Limits.{maxMarks}
 use Rattle.payoff_tables.specs.Table.{cells, tableGame}
@@ -19,7 +20,7 @@ use Rattle.payoff_tables.proofs.Table.{TableTold, table-told}
 use Rattle.marks.proofs.Marks.{marks-whole}
 use Rattle.response_marks.specs.Marks.{responseMarks, ones}
 use Rattle.response_marks.specs.Answers.{tableMarks, marksAnswer, marksWritten, Counted}
-use Rattle.response_marks.proofs.Marks.{marks-same, marks-refused, marks-short, marks-fit, take-marks}
+use Rattle.response_marks.proofs.Marks.{marks-same, marks-none, marks-few, marks-enough, marks-refused, marks-fit, take-marks}
 use Rattle.response_marks.proofs.Counting.{marks-counted}
 use Rattle.mark_responses.proofs.Players.{whole-ready}
 use Rattle.mark_responses.proofs.best_response_marks.Statement.{statement}
@@ -54,7 +55,8 @@ returns : tie.Need-returns
 returns c =
     let f = checked (c .before .before) in
     let a = c .before .before .before .before .before .before .before .before .args in
-    let r = marks-short (a .counts .now) (a .payoffs .now) (length (a .marks .now)) (f .none-applies) (rw (← f .table .full) (c .if1 .taken)) in
+    let n = length (a .marks .now) in
+    let r = marks-refused (a .counts .now) (a .payoffs .now) n OutputTooShort (marks-few (a .counts .now) (a .payoffs .now) n (f .none-applies) (rw (← f .table .full) (c .if1 .taken))) in
     with-number (a .counts .now) (a .payoffs .now) (a .marks .now) _ _ (r .0) (sym (ap (λ (xs : List ℕ). over xs (a .marks .now)) (r .1)))
 
 slice-aggregate-mark-all : tie.Need-slice-aggregate-mark-all
@@ -74,7 +76,8 @@ returns-2 c =
     let k = c .before in
     let a = k .before .before .before .before .before .before .args in
     let (e, is, number) = told-refused (tableRefusal (a .counts .now) (a .payoffs .now)) _ _ (sym (ap toldUsize (k .e .given .1)) ∙ k .before .before .table-profile-count .ensures) in
-    let r = marks-refused (a .counts .now) (a .payoffs .now) (length (a .marks .now)) e is in
+    let n = length (a .marks .now) in
+    let r = marks-refused (a .counts .now) (a .payoffs .now) n e (marks-none (a .counts .now) (a .payoffs .now) n e is) in
     with-number (a .counts .now) (a .payoffs .now) (a .marks .now) _ _ (ap (λ (n : ℕ). refused n) number ∙ r .0) (sym (ap (λ (xs : List ℕ). over xs (a .marks .now)) (r .1)))
 
 same-length : tie.Need-same-length
@@ -90,7 +93,7 @@ returns-3 c =
     let same : responseMarks g (marked (replicate maxMarks true)) ≡ tableMarks counts (a .payoffs .now) =
     marks-same g (marked (replicate maxMarks true)) (whole g) (marks-whole counts (a .payoffs .now) (f .table .shape)) in
     let written = m .mark-all .ensures ∙ ap (λ (xs : List ℕ). over xs (a .marks .now)) same in
-    let r = marks-fit counts (a .payoffs .now) (length (a .marks .now)) (f .none-applies) (rw (← f .table .full) (m .before .before .before .if1 .left)) in
+    let r = marks-fit counts (a .payoffs .now) (length (a .marks .now)) (marks-enough counts (a .payoffs .now) (length (a .marks .now)) (f .none-applies) (rw (← f .table .full) (m .before .before .before .if1 .left))) in
     let counted = c .count-ones .ensures ∙ ap (λ (xs : List ℕ). ones (take (length (a .payoffs .now)) xs)) written
     ∙ ap (λ (n : ℕ). ones (take n (over (tableMarks counts (a .payoffs .now)) (a .marks .now)))) (f .table .full) ∙ ap ones (first counts (a .payoffs .now) (a .marks .now)) in
     with-number counts (a .payoffs .now) (a .marks .now) _ _ (ap (λ (n : ℕ). values n) counted ∙ r .0) (written ∙ sym (ap (λ (xs : List ℕ). over xs (a .marks .now)) (r .1)))
