@@ -26,6 +26,7 @@ ghost use Rattle.table.specs.Space.{spaceOf};
 ghost use Rattle.profile_step.specs.Step.{step};
 ghost use Rattle.responses.specs.Answers.{responseUtilities, responsesAnswer, responsesWritten};
 ghost use Rattle.equilibria.specs.Answers.{isEquilibriumAnswer, equilibriaAnswer, equilibriaChoices, equilibriaUtilities};
+ghost use Rattle.response_marks.specs.Answers.{marksAnswer, marksWritten, fromMarksAnswer, fromMarksChoices, fromMarksUtilities};
 ghost use Rattle.dominance.specs.Answers.{strategiesOf, dominatorsOf, dominatedAnswer, dominatedWritten};
 ghost use Rattle.survivors.specs.Survivors.{freshOf};
 ghost use Rattle.strikes.specs.Answers.{strikeAnswer, strikeLeaves, survivingAnswer, survivingChoices, survivingUtilities};
@@ -245,6 +246,43 @@ pub extern "C" fn sigvanyor_equilibria(
     ensures { λ r. ⌜ now (utilities .exit) ≡ over (equilibriaUtilities (now (counts .entry)) (now (payoffs .entry)) (length (now (choices .entry))) (length (now (utilities .entry)))) (now (utilities .entry)) ⌝ }
 {
     let answer = pure_nash::equilibria(counts, payoffs, choices, utilities);
+    c_outputs::listing_into(answer, total, written)
+}
+
+// `best_response_marks`: a byte for each cell into `marks`, and how many are 1 into `number`, or 1 to 7, 13.
+#[no_mangle]
+pub extern "C" fn sigvanyor_best_response_marks(
+    counts: &[usize],
+    payoffs: &[f64],
+    marks: &mut [u8],
+    number: &mut usize,
+) -> u32
+    ensures { λ r. ⌜ r ≡ status (marksAnswer (now (counts .entry)) (now (payoffs .entry)) (length (now (marks .entry)))) ⌝ }
+    ensures { λ r. ⌜ now (number .exit) ≡ output (marksAnswer (now (counts .entry)) (now (payoffs .entry)) (length (now (marks .entry)))) (now (number .entry)) ⌝ }
+    ensures { λ r. ⌜ now (marks .exit) ≡ over (marksWritten (now (counts .entry)) (now (payoffs .entry)) (length (now (marks .entry)))) (now (marks .entry)) ⌝ }
+{
+    let answer = mark_responses::best_response_marks(counts, payoffs, marks);
+    c_outputs::usize_into(answer, number)
+}
+
+// `marked_profiles`: as `equilibria`, of the profiles that have no 0 among their marks, or 1 to 7, 13.
+#[no_mangle]
+pub extern "C" fn sigvanyor_marked_profiles(
+    counts: &[usize],
+    payoffs: &[f64],
+    marks: &[u8],
+    choices: &mut [usize],
+    utilities: &mut [f64],
+    total: &mut usize,
+    written: &mut usize,
+) -> u32
+    ensures { λ r. ⌜ r ≡ status (fromMarksAnswer (now (counts .entry)) (now (payoffs .entry)) (now (marks .entry)) (length (now (choices .entry))) (length (now (utilities .entry)))) ⌝ }
+    ensures { λ r. ⌜ now (total .exit) ≡ output (toldOf (λ l. l .total) (fromMarksAnswer (now (counts .entry)) (now (payoffs .entry)) (now (marks .entry)) (length (now (choices .entry))) (length (now (utilities .entry))))) (now (total .entry)) ⌝ }
+    ensures { λ r. ⌜ now (written .exit) ≡ output (toldOf (λ l. l .written) (fromMarksAnswer (now (counts .entry)) (now (payoffs .entry)) (now (marks .entry)) (length (now (choices .entry))) (length (now (utilities .entry))))) (now (written .entry)) ⌝ }
+    ensures { λ r. ⌜ now (choices .exit) ≡ over (fromMarksChoices (now (counts .entry)) (now (payoffs .entry)) (now (marks .entry)) (length (now (choices .entry))) (length (now (utilities .entry)))) (now (choices .entry)) ⌝ }
+    ensures { λ r. ⌜ now (utilities .exit) ≡ over (fromMarksUtilities (now (counts .entry)) (now (payoffs .entry)) (now (marks .entry)) (length (now (choices .entry))) (length (now (utilities .entry)))) (now (utilities .entry)) ⌝ }
+{
+    let answer = pure_nash::marked_profiles(counts, payoffs, marks, choices, utilities);
     c_outputs::listing_into(answer, total, written)
 }
 

@@ -1,5 +1,8 @@
 // The calls on survivors: a strike takes a strategy out of a game because another surviving strategy of its player strictly dominates it
 // against all surviving choices of the others; and the equilibria among the survivors.
+use pure_nash::MIDDLE_CELLS;
+use pure_nash::SMALL_CELLS;
+use refusal::Listed;
 use refusal::ListingResult;
 use refusal::NormalFormError;
 use refusal::UsizeOption;
@@ -7,15 +10,20 @@ use refusal::UsizeResult;
 use survivors::Survivors;
 use table::MAX_STRATEGIES;
 ghost use mathlib.Core.Path.{_≡_};
+ghost use mathlib.Core.List.{map};
 ghost use lib.ListN.{length};
 ghost use Rattle.game.specs.Finite.{product};
 ghost use Rattle.game.specs.Game.{strategy as named};
+ghost use Rattle.game.specs.Solution.{equilibria};
 ghost use Rattle.game.specs.Strikes.{answer};
 ghost use Rattle.refusal.specs.Refusal.{numberOf};
 ghost use Rattle.refusal.specs.Told.{refused, toldUsize, toldListing};
-ghost use Rattle.written_lists.specs.Outputs.{over};
-ghost use Rattle.payoff_tables.specs.Table.{tableGame};
+ghost use Rattle.written_lists.specs.Outputs.{joined, over};
+ghost use Rattle.written_lists.specs.Listing.{listedOf};
+ghost use Rattle.payoff_tables.specs.Limits.{maxMarks};
+ghost use Rattle.payoff_tables.specs.Table.{profilePart, tableGame};
 ghost use Rattle.payoff_tables.specs.Meaning.{Table};
+ghost use Rattle.marks.specs.Marks.{marked};
 ghost use Rattle.survivors.specs.Survivors.{marksOf};
 ghost use Rattle.strikes.specs.Answers.{toldAnswer, handedBack, strikeAnswer, strikeLeaves, survivingAnswer, survivingChoices, survivingUtilities};
 
@@ -105,6 +113,32 @@ pub fn strike(
 
 // ---- the survivors' listing
 
+// How many equilibria there are among the marks, and how many of them are written, by how many cells the table has. The caller proves that the
+// table has none of refusals 1 to 7 and `profiles` profiles, and that there are as many marks as there may be.
+fn list_survivors(
+    counts: &[usize],
+    payoffs: &[f64],
+    marks: &[bool],
+    profiles: usize,
+    choices: &mut [usize],
+    utilities: &mut [f64],
+) -> Listed
+    requires { ⌜ Table (now counts) (now payoffs) ⌝ }
+    requires { ⌜ length (now marks) ≡ maxMarks ⌝ }
+    requires { ⌜ profiles ≡ product (now counts) ⌝ }
+    ensures { λ r. ⌜ r ≡ listedOf (equilibria (tableGame (now (counts .entry)) (now (payoffs .entry))) (marked (now (marks .entry)))) (length (now (counts .entry))) (length (now (choices .entry))) (length (now (utilities .entry))) ⌝ }
+    ensures { λ r. ⌜ now (choices .exit) ≡ over (joined (r .written) (equilibria (tableGame (now (counts .entry)) (now (payoffs .entry))) (marked (now (marks .entry))))) (now (choices .entry)) ⌝ }
+    ensures { λ r. ⌜ now (utilities .exit) ≡ over (joined (r .written) (map (profilePart (now (counts .entry)) (now (payoffs .entry))) (equilibria (tableGame (now (counts .entry)) (now (payoffs .entry))) (marked (now (marks .entry)))))) (now (utilities .entry)) ⌝ }
+{
+    if payoffs.len() <= SMALL_CELLS {
+        return pure_nash::small_equilibria(counts, payoffs, marks, profiles, choices, utilities);
+    }
+    if payoffs.len() <= MIDDLE_CELLS {
+        return pure_nash::middle_equilibria(counts, payoffs, marks, profiles, choices, utilities);
+    }
+    pure_nash::marked_equilibria(counts, payoffs, marks, profiles, choices, utilities)
+}
+
 // How many equilibria there are among the survivors, in profiles of survivors and with changes to survivors only, and how many of them are
 // written: the first that both outputs hold whole, each once, in profile order, P choices of each into `choices`, and P payoffs of each, bits
 // kept, into `utilities`. Elements past those written keep their contents. With empty outputs nothing is written. Or the first of 1 to 7 and
@@ -127,7 +161,7 @@ pub fn surviving_equilibria(
                 return ListingResult::Err(NormalFormError::ForeignSurvivors);
             }
             let marks = survivors.marks;
-            ListingResult::Ok(pure_nash::marked_equilibria(
+            ListingResult::Ok(list_survivors(
                 counts,
                 payoffs,
                 &marks,
