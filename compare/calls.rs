@@ -9,6 +9,7 @@ use crate::grids::{self, Grids};
 use crate::inputs;
 use crate::library::{self, Answer, Bits};
 use crate::listings;
+use crate::marks::{self, Marks};
 use crate::report::{self, Reports};
 use crate::rust::{self, Judged};
 use crate::solvers;
@@ -61,6 +62,7 @@ pub fn compare() {
     );
     report(solvers.equilibria, &listings::with_rust(), &table);
     report(solvers.dominated, &[0, 1, 3, 6, 7, 8], &lists);
+    mark_calls(marks::marks(), &mut report);
     let candidates = candidates::candidates();
     let reports = report::reports();
     let (strikes, deposits, catalogue, grids) = other.join().unwrap();
@@ -93,6 +95,19 @@ pub fn compare() {
     );
     inputs::report();
     println!("compare: {with_rust} cases with the Rust and {with_document} with document 01 alone, 0 differences");
+}
+
+/// The calls on marks of best responses.
+fn mark_calls(marks: Marks, report: &mut impl FnMut(Tally, &[u32], &[(Judge, &[u32])])) {
+    marks.report_beside();
+    let short: (Judge, &[u32]) = (Judge::TooShort, &Marks::SHORT);
+    report(marks.sweep, &Marks::with_rust(), &[OUTSIDE, BOTH, short]);
+    let unasked: (Judge, &[u32]) = (Judge::Unasked, &listings::without_rust());
+    report(
+        marks.listing,
+        &listings::with_rust(),
+        &[OUTSIDE, BOTH, unasked],
+    );
 }
 
 /// The calls on survivors.

@@ -51,7 +51,8 @@ pub fn run(catalogue: &mut Catalogue) {
     }
     for _ in 0..200 {
         for faults in 0..1 << document::TABLE_FAULTS.len() {
-            faulty_table(catalogue, &mut random, faults);
+            let (counts, payoffs) = solvers::faulty_table(&mut random, faults);
+            catalogue.number(&counts, &payoffs);
         }
     }
     for _ in 0..4_000 {
@@ -223,14 +224,6 @@ fn spoiled(catalogue: &mut Catalogue, random: &mut Random) {
             _ => counts[1] = wrong,
         }
     }
-    catalogue.number(&counts, &payoffs);
-}
-
-/// A table with the faults of a set and no others, as far as they go together.
-fn faulty_table(catalogue: &mut Catalogue, random: &mut Random, faults: u32) {
-    let has = |refusal: u32| solvers::has_fault(&[], faults, refusal);
-    let counts = solvers::faulty_counts(random, has);
-    let payoffs = solvers::faulty_payoffs(random, has, &counts);
     catalogue.number(&counts, &payoffs);
 }
 

@@ -86,6 +86,15 @@ extern "C" {
         responses_len: usize,
         number: *mut usize,
     ) -> u32;
+    fn sigvanyor_best_response_marks(
+        counts: *const usize,
+        counts_len: usize,
+        payoffs: *const f64,
+        payoffs_len: usize,
+        marks: *mut u8,
+        marks_len: usize,
+        number: *mut usize,
+    ) -> u32;
     fn sigvanyor_is_equilibrium(
         counts: *const usize,
         counts_len: usize,
@@ -100,6 +109,20 @@ extern "C" {
         counts_len: usize,
         payoffs: *const f64,
         payoffs_len: usize,
+        choices: *mut usize,
+        choices_len: usize,
+        utilities: *mut f64,
+        utilities_len: usize,
+        total: *mut usize,
+        written: *mut usize,
+    ) -> u32;
+    fn sigvanyor_marked_profiles(
+        counts: *const usize,
+        counts_len: usize,
+        payoffs: *const f64,
+        payoffs_len: usize,
+        marks: *const u8,
+        marks_len: usize,
         choices: *mut usize,
         choices_len: usize,
         utilities: *mut f64,
@@ -357,11 +380,19 @@ impl<T> Listing<T> {
     }
 }
 
-/// What a listing of equilibria is told as: how many there are, and those of them that are written.
+/// What a listing of equilibria or of marked profiles is told as: how many there are, and those of them that are
+/// written.
 #[derive(Debug, Clone, PartialEq)]
 pub struct Listed {
     pub total: usize,
     pub written: Listing<Bits>,
+}
+
+/// What a sweep of best responses is told as: how many marks are 1, and every byte of the buffer that it is lent.
+#[derive(Debug, PartialEq)]
+pub struct Swept {
+    pub number: usize,
+    pub bytes: Vec<u8>,
 }
 
 /// NaNs of several payloads. As a usize each is larger than any number that a call answers.
@@ -580,7 +611,37 @@ impl Lists {
     }
 }
 
-/// The outputs of a listing of equilibria: how many there are, and those of a list of the ones that are written.
+/// The outputs of a sweep of best responses: the buffer, with any bytes in it before, and how many marks are 1.
+pub struct Sweep {
+    marks: Slice<u8>,
+    number: Output<1>,
+}
+
+impl Sweep {
+    pub fn of(old: &[u8]) -> Self {
+        let mut marks = Slice::fresh(old.len());
+        marks.words[Slice::<u8>::GUARD..][..old.len()].copy_from_slice(old);
+        Self {
+            marks,
+            number: Output::fresh(),
+        }
+    }
+
+    /// The answer of a call that wrote here, where these bytes were before.
+    pub fn answer(&self, status: u32, old: &[u8]) -> Answer<Swept> {
+        let Self { marks, number } = self;
+        let bytes = marks.first(marks.len());
+        let guarded = marks.guarded() && number.guarded();
+        let untouched = number.untouched() && bytes == old;
+        answer(status, guarded, untouched, || Swept {
+            number: number.numbers()[0],
+            bytes: bytes.to_vec(),
+        })
+    }
+}
+
+/// The outputs of a listing of equilibria or of marked profiles: how many there are, and those of a list of the ones
+/// that are written.
 pub struct Equilibria {
     total: Output<1>,
     written: Lists,
@@ -595,7 +656,7 @@ impl Equilibria {
     }
 
     /// The answer of a call that wrote here, on a table of so many players.
-    fn answer(&self, status: u32, players: usize) -> Answer<Listed> {
+    pub fn answer(&self, status: u32, players: usize) -> Answer<Listed> {
         let written = match self.written.answer(status, players, Bits) {
             Answer::Accepted(written) => Some(written),
             Answer::Refused(_) => None,
@@ -935,6 +996,23 @@ pub fn best_response_records(
     )
 }
 
+pub fn best_response_marks_into(counts: &[usize], payoffs: &[f64], sweep: &mut Sweep) -> u32 {
+    call!(
+        sigvanyor_best_response_marks,
+        [counts, payoffs],
+        sweep.marks.place(),
+        sweep.marks.len(),
+        sweep.number.place()
+    )
+}
+
+/// The sweep into a buffer with these bytes in it.
+pub fn best_response_marks(counts: &[usize], payoffs: &[f64], old: &[u8]) -> Answer<Swept> {
+    let mut sweep = Sweep::of(old);
+    let status = best_response_marks_into(counts, payoffs, &mut sweep);
+    sweep.answer(status, old)
+}
+
 pub fn is_equilibrium(counts: &[usize], payoffs: &[f64], profile: &[usize]) -> Answer<bool> {
     let mut equilibrium = Output::<1>::fresh();
     let status = call!(
@@ -958,6 +1036,27 @@ pub fn equilibria_into(counts: &[usize], payoffs: &[f64], outputs: &mut Equilibr
 pub fn equilibria(counts: &[usize], payoffs: &[f64], lengths: [usize; 2]) -> Answer<Listed> {
     let mut outputs = Equilibria::fresh(lengths);
     let status = equilibria_into(counts, payoffs, &mut outputs);
+    outputs.answer(status, counts.len())
+}
+
+pub fn marked_profiles_into(
+    counts: &[usize],
+    payoffs: &[f64],
+    marks: &[u8],
+    outputs: &mut Equilibria,
+) -> u32 {
+    let Equilibria { total, written } = outputs;
+    call!(sigvanyor_marked_profiles, [counts, payoffs, marks]; written, total)
+}
+
+pub fn marked_profiles(
+    counts: &[usize],
+    payoffs: &[f64],
+    marks: &[u8],
+    lengths: [usize; 2],
+) -> Answer<Listed> {
+    let mut outputs = Equilibria::fresh(lengths);
+    let status = marked_profiles_into(counts, payoffs, marks, &mut outputs);
     outputs.answer(status, counts.len())
 }
 

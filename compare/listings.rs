@@ -1,21 +1,22 @@
-//! The two listings of equilibria: what they answer into outputs of any lengths, by the list of all equilibria; the
-//! lengths that are tried; and what an answer is counted under.
+//! The listings of equilibria and of marked profiles: what they answer into outputs of any lengths, by the list of all;
+//! the lengths that are tried; and what an answer is counted under.
 
 use crate::cases::Random;
+use crate::document;
 use crate::library::{Answer, Bits, Listed, Listing};
 use crate::survivors;
 use crate::tally;
 use std::cmp::Ordering;
 
-/// What an accepted listing is counted under, after the grounds of calls on survivors: there is no equilibrium, all are
+/// What an accepted listing is counted under, after the grounds of calls on survivors: there is nothing to list, all is
 /// written, or some, or none for lack of room; of the last two, which output holds fewer entries than the other.
-const NO_EQUILIBRIUM: u32 = survivors::GROUNDS.len() as u32;
-const ALL_WRITTEN: u32 = NO_EQUILIBRIUM + 1;
+const NOTHING: u32 = survivors::GROUNDS.len() as u32;
+const ALL_WRITTEN: u32 = NOTHING + 1;
 const SOME_WRITTEN: u32 = ALL_WRITTEN + 1;
 const NONE_WRITTEN: u32 = SOME_WRITTEN + 3;
 
 const OTHERS: [&str; 8] = [
-    "accepted, no equilibrium:",
+    "accepted, nothing to list:",
     "accepted, all written:",
     "accepted, some written, fewer choices held:",
     "accepted, some written, fewer payoffs held:",
@@ -30,12 +31,16 @@ pub const GROUNDS: [&str; survivors::GROUNDS.len() + OTHERS.len()] =
 
 /// The grounds that a listing has with the Rust: those of what is accepted, and the Rust's refusals of a table.
 pub fn with_rust() -> Vec<u32> {
-    let accepted = NO_EQUILIBRIUM..GROUNDS.len() as u32;
-    accepted.chain([1, 3, 6, 7]).collect()
+    tally::from(NOTHING, &GROUNDS, &[1, 3, 6, 7])
+}
+
+/// The grounds that one from marks has without it: those of what is accepted, and that there are too few marks.
+pub fn without_rust() -> Vec<u32> {
+    tally::from(NOTHING, &GROUNDS, &[document::SHORT])
 }
 
 /// The answer of a listing on a table of so many players into outputs of these lengths, and its ground, by the list of
-/// all equilibria or the ground of a refusal: the first ones that both outputs hold whole.
+/// all or the ground of a refusal: the first ones that both outputs hold whole.
 pub fn answer(
     listing: Result<&Listing<Bits>, u32>,
     players: usize,
@@ -59,7 +64,7 @@ pub fn answer(
         Ordering::Equal => 2,
     };
     let ground = match number {
-        _ if total == 0 => NO_EQUILIBRIUM,
+        _ if total == 0 => NOTHING,
         _ if number == total => ALL_WRITTEN,
         0 => NONE_WRITTEN + fewer,
         _ => SOME_WRITTEN + fewer,
@@ -67,7 +72,7 @@ pub fn answer(
     (ground, Answer::Accepted(Listed { total, written }))
 }
 
-/// How many equilibria a list has; where it is refused, as many as lengths shall be around.
+/// How many entries a list has; where it is refused, as many as lengths shall be around.
 pub fn total(listing: Result<&Listing<Bits>, u32>) -> usize {
     listing.map_or(1, |listing| listing.number)
 }

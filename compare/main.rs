@@ -22,6 +22,7 @@ mod grids;
 mod inputs;
 mod library;
 mod listings;
+mod marks;
 mod plain;
 mod record;
 mod report;

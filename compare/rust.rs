@@ -1,5 +1,6 @@
 //! The Rust's answers, an error put as document 01's number.
 
+use crate::cases;
 use crate::document::{self, PLAYERS};
 use crate::library::{Answer, Bits, Listing, Part, Space};
 use crate::reference::{
@@ -49,6 +50,25 @@ pub fn best_responses(
     opponents: &[usize],
 ) -> Result<Vec<BestResponse>, u32> {
     BestResponseSolver::best_responses(matrix, player, opponents).map_err(number)
+}
+
+/// A mark for each cell: 1 where the profile's choice is among the player's best responses to the others', else 0.
+pub fn marks(matrix: &PayoffMatrix) -> Vec<u8> {
+    let space = matrix.strategies();
+    let counts = space.strategy_counts();
+    let players = counts.len();
+    let mut marks = vec![0; players * counts.iter().product::<usize>()];
+    for player in 0..players {
+        for opponents in cases::profiles(&cases::without(&counts, player)) {
+            for response in best_responses(matrix, player, &opponents).unwrap() {
+                let mut profile = opponents.clone();
+                profile.insert(player, response.strategy);
+                let offset = reference::offset(space, &profile).unwrap();
+                marks[offset * players + player] = 1;
+            }
+        }
+    }
+    marks
 }
 
 pub fn equilibria(matrix: &PayoffMatrix) -> Vec<PureNashEquilibrium> {

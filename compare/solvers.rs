@@ -315,6 +315,15 @@ pub fn has_fault(own: &[u32], set: u32, refusal: u32) -> bool {
     place.is_some_and(|place| set >> place & 1 == 1)
 }
 
+/// A table with the faults of a set, which has a bit for each refusal of a table, and no others, as far as they go
+/// together.
+pub fn faulty_table(random: &mut Random, faults: u32) -> (Vec<usize>, Vec<f64>) {
+    let has = |refusal: u32| has_fault(&[], faults, refusal);
+    let counts = faulty_counts(random, has);
+    let payoffs = faulty_payoffs(random, has, &counts);
+    (counts, payoffs)
+}
+
 pub fn faulty_counts(random: &mut Random, has: impl Fn(u32) -> bool) -> Vec<usize> {
     if has(document::NO_PLAYERS) {
         return Vec::new();

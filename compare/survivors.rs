@@ -1,5 +1,6 @@
-//! Document 01's survivors and strikes, written from its text alone: the sets of strategies that are left, and every
-//! profile of them. The judge where the Rust is none, and a second one beside it.
+//! Document 01's survivors, strikes and equilibria, and document 02's marks of best responses, written from their text
+//! alone: the sets of strategies that are left, and every profile of them. The judge where the Rust is none, and a second
+//! one beside it.
 
 use crate::document::{self, PLAYERS, STRATEGIES};
 use crate::library::{Bits, Listing, Survivors, MARKS};
@@ -159,32 +160,64 @@ impl Game<'_> {
         lowest.copied().ok_or(document::NOT_DOMINATED)
     }
 
-    /// The profiles of what is left where no change to what is left gains.
+    /// Whether the player's choice is a best response: no change to what is left gains.
+    fn best(&self, left: &Left, profile: &Profile, player: usize) -> bool {
+        let key = self.key(profile, player);
+        let mut changed = *profile;
+        left[player].iter().all(|other| {
+            changed[player] = *other;
+            self.key(&changed, player) <= key
+        })
+    }
+
+    /// The profiles of what is left where each choice is a best response.
     pub fn equilibria(&self, left: &Left) -> Listing<Bits> {
-        let players = self.counts.len();
+        let players = 0..self.counts.len();
+        self.listed(left, |profile| {
+            players
+                .clone()
+                .all(|player| self.best(left, profile, player))
+        })
+    }
+
+    /// The profiles of what is left that pass a test, in order.
+    fn listed(&self, left: &Left, test: impl Fn(&Profile) -> bool) -> Listing<Bits> {
         let mut listing = Listing {
             number: 0,
             first: Vec::new(),
             second: Vec::new(),
         };
         every(left, |profile| {
-            let gains = |player: usize| {
-                let key = self.key(profile, player);
-                let mut changed = *profile;
-                left[player].iter().any(|other| {
-                    changed[player] = *other;
-                    self.key(&changed, player) > key
-                })
-            };
-            if !(0..players).any(gains) {
+            if test(profile) {
                 listing.number += 1;
-                listing.first.extend(&profile[..players]);
+                listing.first.extend(&profile[..self.counts.len()]);
                 let payoffs = self.at(profile).iter().copied();
                 listing.second.extend(payoffs.map(Bits::of));
             }
             true
         });
         listing
+    }
+
+    /// A mark for each cell: 1 where the profile's choice is a best response of that player, else 0.
+    pub fn marks(&self) -> Vec<u8> {
+        let every_strategy = all(self.counts);
+        let mut marks = Vec::with_capacity(self.payoffs.len());
+        every(&every_strategy, |profile| {
+            let players = 0..self.counts.len();
+            let best = players.map(|player| self.best(&every_strategy, profile, player));
+            marks.extend(best.map(u8::from));
+            true
+        });
+        marks
+    }
+
+    /// The profiles that have no 0 among their P marks.
+    pub fn marked(&self, marks: &[u8]) -> Listing<Bits> {
+        self.listed(&all(self.counts), |profile| {
+            let own = &marks[self.place(profile)..][..self.counts.len()];
+            !own.contains(&0)
+        })
     }
 
     /// The counts and the payoffs of the table that has only what is left.

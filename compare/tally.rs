@@ -42,6 +42,12 @@ pub const fn after<const N: usize>(
     all
 }
 
+/// The classes from one on, and others before it.
+pub fn from(first: u32, classes: &[&str], others: &[u32]) -> Vec<u32> {
+    let rest = first..classes.len() as u32;
+    rest.chain(others.iter().copied()).collect()
+}
+
 /// Who judges a case: the Rust; or document 01 alone, outside the comparison's domain, where a table has both 6 and 7,
 /// which the Rust meets in the other order, so that such inputs stay out of the comparison with it, where an output is
 /// shorter than the list, since the Rust is lent no outputs, where the Rust panics, and where the Rust has no such call
