@@ -3,6 +3,7 @@
  * refusals and number: the header fits the archive. */
 #include "sigvanyor.h"
 #include <stdio.h>
+#include <string.h>
 
 static int wrong = 0;
 
@@ -123,6 +124,56 @@ static void listings(void) {
                 expect("equilibria", out.utilities[2 * i] == 4 && out.utilities[2 * i + 1] == 5);
             }
         }
+}
+
+/* A buffer of marks, and how many the sweep set. */
+static uint8_t marks[9];
+static size_t set;
+
+/* The sweep of a game of 2 x 2 into a buffer of this length with a byte everywhere. */
+static uint32_t sweep(const double *payoffs, size_t payoffs_len, size_t marks_len, uint8_t byte) {
+    const size_t counts[] = {2, 2};
+    memset(marks, byte, 9);
+    set = 99;
+    return sigvanyor_best_response_marks(counts, 2, payoffs, payoffs_len, marks, marks_len, &set);
+}
+
+/* Whether so many marks were told as set since then, and these are the bytes. */
+static bool swept(size_t number, const uint8_t *bytes) { return set == number && memcmp(marks, bytes, 9) == 0; }
+
+/* The listing of the game of `solvers` from marks, as `list`. */
+static uint32_t list_marked(const uint8_t *from, size_t payoffs_len, size_t marks_len, size_t choices_len, size_t utilities_len) {
+    const size_t counts[] = {2, 2};
+    const double payoffs[] = {2, 2, 0, 3, 3, 0, 1, 1};
+    clear();
+    return sigvanyor_marked_profiles(counts, 2, payoffs, payoffs_len, from, marks_len, out.choices, choices_len,
+                                     out.utilities, utilities_len, &out.total, &out.written);
+}
+
+/* The games of `listings`: their marks, and what is listed from marks of the first one that a caller made. */
+static void best_response_marks(void) {
+    const double payoffs[] = {2, 2, 0, 3, 3, 0, 1, 1}, equal[] = {4, 5, 4, 5, 4, 5, 4, 5};
+    const uint8_t best[] = {0, 0, 0, 1, 1, 0, 1, 1, 1}, all[] = {1, 1, 1, 1, 1, 1, 1, 1, 7}, old[] = {7, 7, 7, 7, 7, 7, 7, 7, 7};
+    const uint8_t any[] = {2, 255, 1, 0, 0, 255, 128, 1, 0}, none[] = {0, 1, 2, 0, 0, 0, 255, 0, 1};
+
+    expect("best_response_marks", sweep(payoffs, 7, 6, 7) == SIGVANYOR_PAYOFF_COUNT && swept(99, old));
+    expect("best_response_marks", sweep(payoffs, 8, 0, 7) == SIGVANYOR_OUTPUT_TOO_SHORT && swept(99, old));
+    expect("best_response_marks", sweep(payoffs, 8, 7, 7) == SIGVANYOR_OUTPUT_TOO_SHORT && swept(99, old));
+    expect("best_response_marks", sweep(payoffs, 8, 8, 1) == 0 && swept(4, best));
+    expect("best_response_marks", sweep(payoffs, 8, 9, 1) == 0 && swept(4, best));
+    expect("best_response_marks", sweep(equal, 8, 9, 7) == 0 && swept(8, all));
+    expect("marked_profiles", list_marked(best, 7, 6, 9, 9) == SIGVANYOR_PAYOFF_COUNT && told(99, 99, 0));
+    expect("marked_profiles", list_marked(best, 8, 0, 9, 9) == SIGVANYOR_OUTPUT_TOO_SHORT && told(99, 99, 0));
+    expect("marked_profiles", list_marked(best, 8, 7, 9, 9) == SIGVANYOR_OUTPUT_TOO_SHORT && told(99, 99, 0));
+    expect("marked_profiles", list_marked(best, 8, 8, 9, 9) == 0 && told(1, 1, 1));
+    expect("marked_profiles", out.choices[0] == 1 && out.choices[1] == 1 && out.utilities[0] == 1 && out.utilities[1] == 1);
+    expect("marked_profiles", list_marked(any, 8, 9, 4, 9) == 0 && told(2, 2, 2));
+    expect("marked_profiles", out.choices[0] == 0 && out.choices[1] == 0 && out.choices[2] == 1 && out.choices[3] == 1);
+    expect("marked_profiles", out.utilities[0] == 2 && out.utilities[1] == 2 && out.utilities[2] == 1 && out.utilities[3] == 1);
+    expect("marked_profiles", list_marked(any, 8, 8, 9, 3) == 0 && told(2, 1, 1));
+    expect("marked_profiles", out.choices[0] == 0 && out.choices[1] == 0 && out.utilities[0] == 2 && out.utilities[1] == 2);
+    expect("marked_profiles", list_marked(any, 8, 9, 0, 0) == 0 && told(2, 0, 0));
+    expect("marked_profiles", list_marked(none, 8, 9, 9, 9) == 0 && told(0, 0, 0));
 }
 
 /* The survivors' listing of the game of `solvers`, with this P in their record. */
@@ -246,6 +297,7 @@ static void catalogue(void) {
 static void rooms(void) {
     enum { CELLS = SIGVANYOR_MAX_CELLS, STRATEGIES = SIGVANYOR_MAX_STRATEGIES };
     static double payoffs[CELLS], utilities[CELLS];
+    static uint8_t bytes[CELLS];
     static size_t choices[CELLS], dominators[STRATEGIES];
     static sigvanyor_best_response responses[STRATEGIES];
     const size_t counts[] = {8, 8, 16, 16}, one[] = {STRATEGIES}, none[] = {0};
@@ -253,6 +305,7 @@ static void rooms(void) {
 
     expect("MAX_CELLS", sigvanyor_equilibria(counts, 4, payoffs, CELLS, choices, CELLS, utilities, CELLS, &total, &number) == 0);
     expect("MAX_CELLS", total == CELLS / 4 && number == CELLS / 4);
+    expect("MAX_CELLS", sigvanyor_best_response_marks(counts, 4, payoffs, CELLS, bytes, CELLS, &number) == 0 && number == CELLS);
     expect("MAX_STRATEGIES", sigvanyor_best_responses(one, 1, payoffs, STRATEGIES, 0, none, 0, choices, STRATEGIES,
                                                       utilities, STRATEGIES, &number) == 0 && number == STRATEGIES);
     expect("MAX_STRATEGIES", sigvanyor_best_response_records(one, 1, payoffs, STRATEGIES, 0, none, 0, responses, STRATEGIES,
@@ -316,6 +369,7 @@ int main(void) {
     expect("advance_profile", !sigvanyor_advance_profile(counts, 0, step) && step[0] == 1 && step[3] == 7);
     solvers();
     listings();
+    best_response_marks();
     strikes();
     candidates();
     deposits();

@@ -23,12 +23,12 @@ static sigvanyor_claim claim;
 static const size_t profile[SIGVANYOR_MAX_PLAYERS];
 static size_t struck_players[STRIKES], struck_strategies[STRIKES];
 static sigvanyor_survivors left;
-static uint8_t bytes[SIGVANYOR_MAX_FILE];
+static uint8_t bytes[SIGVANYOR_MAX_FILE], marks[CELLS];
 static size_t bytes_len;
 
 static size_t number, total, first, space[SIGVANYOR_MAX_PLAYERS], step[SIGVANYOR_MAX_PLAYERS], choices[CELLS], dominators[CELLS];
 static double utility, utilities[CELLS];
-static uint8_t truth;
+static uint8_t truth, swept[CELLS];
 static uint32_t answers[STRIKES];
 static sigvanyor_best_response responses[MOST];
 
@@ -51,6 +51,7 @@ static void best_responses(void) {
 static void best_response_records(void) {
     sigvanyor_best_response_records(counts, players, payoffs, cells, 0, profile, players - 1, responses, MOST, &number);
 }
+static void best_response_marks(void) { sigvanyor_best_response_marks(counts, players, payoffs, cells, swept, CELLS, &number); }
 static void is_equilibrium(void) { sigvanyor_is_equilibrium(counts, players, payoffs, cells, profile, players, &truth); }
 static void equilibria(void) {
     sigvanyor_equilibria(counts, players, payoffs, cells, choices, CELLS, utilities, CELLS, &total, &number);
@@ -60,6 +61,9 @@ static void equilibria_counted(void) {
 }
 static void equilibria_cut(void) {
     sigvanyor_equilibria(counts, players, payoffs, cells, choices, CELLS, utilities, players, &total, &number);
+}
+static void marked_profiles(void) {
+    sigvanyor_marked_profiles(counts, players, payoffs, cells, marks, CELLS, choices, CELLS, utilities, CELLS, &total, &number);
 }
 static void strictly_dominated_strategies(void) {
     sigvanyor_strictly_dominated_strategies(counts, players, payoffs, cells, 0, choices, MOST, dominators, MOST, &number);
@@ -115,10 +119,12 @@ static const call calls[] = {
     {"advance_profile", advance_profile, SIGVANYOR_STACK, NOTHING},
     {"best_responses", best_responses, SIGVANYOR_STACK, COMPARES},
     {"best_response_records", best_response_records, SIGVANYOR_STACK, COMPARES},
+    {"best_response_marks", best_response_marks, SIGVANYOR_STACK, COMPARES},
     {"is_equilibrium", is_equilibrium, SIGVANYOR_STACK, COMPARES},
     {"equilibria", equilibria, SIGVANYOR_STACK_EQUILIBRIA, COMPARES},
     {"equilibria into empty outputs", equilibria_counted, SIGVANYOR_STACK_EQUILIBRIA, COMPARES},
     {"equilibria into a short output", equilibria_cut, SIGVANYOR_STACK_EQUILIBRIA, COMPARES},
+    {"marked_profiles", marked_profiles, SIGVANYOR_STACK, COMPARES},
     {"strictly_dominated_strategies", strictly_dominated_strategies, SIGVANYOR_STACK, COMPARES},
     {"fresh", fresh, SIGVANYOR_STACK, COMPARES},
     {"strike", strike, SIGVANYOR_STACK, COMPARES},
@@ -157,15 +163,17 @@ static double any_finite(void) {
     return finite && bits % 3 != 0 ? of_bits(bits) : (double)(bits >> 8 & 3);
 }
 
-/* P and its counts. */
+/* P and its counts: small ones; 64 cells and a few more, 2,048 and a few more; the largest. */
 static const size_t shapes[][1 + SIGVANYOR_MAX_PLAYERS] = {
     {1, 1}, {1, 64}, {2, 2, 2}, {2, 3, 5}, {3, 2, 3, 4},
+    {4, 2, 2, 2, 2}, {2, 3, 11}, {2, 32, 32}, {8, 2, 2, 2, 2, 2, 2, 2, 2}, {2, 25, 41},
     {2, 64, 64}, {3, 27, 27, 27}, {4, 8, 8, 16, 16}, {8, 3, 3, 3, 3, 3, 3, 3, 3},
 };
 enum { SMALL = 5, SHAPES = sizeof shapes / sizeof shapes[0] };
 
-/* A table of this shape, its fresh survivors, made by hand, its file, whose call binds nothing, and
- * a candidate with as many rows and columns as the first two counts. */
+/* A table of this shape, marks of its cells, few of them 0, its fresh survivors, made by hand, its
+ * file, whose call binds nothing, and a candidate with as many rows and columns as the first two
+ * counts. */
 static void fill(const size_t *shape) {
     players = cells = left.players = shape[0];
     for (size_t p = 0; p < SIGVANYOR_MAX_PLAYERS; p++) {
@@ -174,8 +182,10 @@ static void fill(const size_t *shape) {
         for (size_t s = 0; s < MOST; s++)
             left.marks[p * MOST + s] = s < counts[p];
     }
-    for (size_t i = 0; i < cells; i++)
+    for (size_t i = 0; i < cells; i++) {
         payoffs[i] = any_finite();
+        marks[i] = (uint8_t)(random_bits() % 16);
+    }
     write_file();
     for (size_t i = 0; i < STRIKES; i++) {
         struck_players[i] = i % (players + 1);
@@ -251,32 +261,47 @@ static size_t first_stack_of(const call *c) {
     return depth;
 }
 
-static void hold_stack(const call *c, size_t depth, size_t *most) {
-    if (depth > *most)
-        *most = depth;
-    if (depth > c->stack) {
-        printf("stack: %s took %zu bytes, the header says %zu\n", c->name, depth, c->stack);
+/* What a listing may take, by the cells of its table. */
+static const struct {
+    size_t cells, stack;
+} sizes[] = {
+    {64, SIGVANYOR_STACK},
+    {2048, SIGVANYOR_STACK_EQUILIBRIA_2048},
+    {CELLS, SIGVANYOR_STACK_EQUILIBRIA},
+};
+enum { SIZES = sizeof sizes / sizeof sizes[0] };
+
+/* The most that a listing took on a table of each size, and any other call. */
+static size_t most[SIZES + 1];
+
+static void hold_stack(const call *c, size_t depth) {
+    const bool lists = c->stack == SIGVANYOR_STACK_EQUILIBRIA;
+    size_t size = 0;
+    while (cells > sizes[size].cells)
+        size++;
+    const size_t limit = lists ? sizes[size].stack : c->stack, kind = lists ? size : SIZES;
+    if (depth > most[kind])
+        most[kind] = depth;
+    if (depth > limit) {
+        printf("stack: %s took %zu bytes on a table of %zu cells, the header says %zu\n", c->name, depth, cells, limit);
         wrong = 1;
     }
 }
 
+/* Every call on tables of every shape, first in processes that have made none. */
 static void stacks(void) {
-    size_t listings = 0, others = 0, least = STACK;
+    size_t (*const measures[])(const call *) = {first_stack_of, stack_of};
     if (posix_memalign((void **)&stack, 4096, STACK))
         exit(1);
-    fill(shapes[2]);
-    for (const call *c = calls; c < calls + CALLS; c++)
-        hold_stack(c, first_stack_of(c), c->stack == SIGVANYOR_STACK ? &others : &listings);
-    for (int s = 0; s < SHAPES; s++) {
-        fill(shapes[s]);
-        for (const call *c = calls; c < calls + CALLS; c++) {
-            const size_t depth = stack_of(c);
-            hold_stack(c, depth, c->stack == SIGVANYOR_STACK ? &others : &listings);
-            if (c->stack != SIGVANYOR_STACK && depth < least)
-                least = depth;
+    for (int m = 0; m < 2; m++)
+        for (int s = 0; s < SHAPES; s++) {
+            fill(shapes[s]);
+            for (const call *c = calls; c < calls + CALLS; c++)
+                hold_stack(c, measures[m](c));
         }
-    }
-    printf("stack: at most %zu bytes for the calls on all equilibria, at least %zu; %zu for the others\n", listings, least, others);
+    printf("stack: at most %zu bytes for a listing of equilibria on up to %zu cells, %zu on up to %zu, %zu on more; "
+           "%zu for the other calls\n",
+           most[0], sizes[0].cells, most[1], sizes[1].cells, most[2], most[SIZES]);
 }
 
 /* ---- flags */
