@@ -6,7 +6,8 @@ use crate::cases::{self, Random};
 use crate::catalogue::{self, COUNTS};
 use crate::document::{ACTIONS, CELLS, PLAYERS, STRATEGIES};
 use crate::library::{
-    self, Answer, Bits, Claim, Entry, Equilibria, File, Held, Listing, Lists, Records, StrikeLists,
+    self, Answer, Bits, Claim, Entry, Equilibria, File, Held, Listed, Listing, Lists, Records,
+    StrikeLists, Sweep, Swept,
 };
 use crate::plain;
 use crate::report_bench;
@@ -31,9 +32,10 @@ const SHAPES: [&[usize]; 6] = [
 ];
 
 /// The parts of a run, in the order in which they run.
-pub const PARTS: [(&str, fn()); 7] = [
+pub const PARTS: [(&str, fn()); 8] = [
     ("checks", checks),
-    ("solvers", every_solver),
+    ("solvers", || every_table(solvers)),
+    ("marks", || every_table(marks)),
     ("elimination", eliminations),
     ("candidates", candidates),
     ("deposits", deposits),
@@ -124,14 +126,14 @@ pub fn shape(counts: &[usize]) -> String {
     counts.join(" × ")
 }
 
-/// The solvers on tables of each shape.
-fn every_solver() {
+/// A part's calls on three tables of each shape, told its kind, its counts and its payoffs.
+fn every_table(calls: fn(&str, &[usize], &[f64])) {
     let payoffs = payoffs();
     for counts in SHAPES {
         let dominated = cases::own_choices(counts);
-        solvers("random", counts, &payoffs[..dominated.len()]);
-        solvers("constant", counts, &vec![1.0; dominated.len()]);
-        solvers("dominated", counts, &dominated);
+        calls("random", counts, &payoffs[..dominated.len()]);
+        calls("constant", counts, &vec![1.0; dominated.len()]);
+        calls("dominated", counts, &dominated);
     }
 }
 
@@ -190,6 +192,93 @@ fn solvers(kind: &str, counts: &[usize], payoffs: &[f64]) {
         },
         || table().map(|matrix| rust::best_responses(&matrix, 0, &opponents)),
     );
+}
+
+/// The sweep of best responses, the equilibria, and the listing from the sweep's marks; beside the
+/// library stands plain Rust. The outputs, and the bytes in which the plain listing marks, are there
+/// beforehand.
+fn marks(kind: &str, counts: &[usize], payoffs: &[f64]) {
+    let shape = shape(counts);
+    let names = |call| ["marks", &shape, kind, call];
+    let input = || (black_box(counts), black_box(payoffs));
+    let mut bytes = vec![0; payoffs.len()];
+    let mut sweep = Sweep::of(&bytes);
+    let mut plain = || {
+        let (counts, payoffs) = input();
+        plain::best_response_marks(counts, payoffs, black_box(&mut bytes))
+    };
+    let (library, rust) = best(
+        || {
+            let (counts, payoffs) = input();
+            library::best_response_marks_into(counts, payoffs, &mut sweep)
+        },
+        &mut plain,
+    );
+    let number = plain().unwrap();
+    tell(
+        &names("`best_response_marks`"),
+        &[library, rust, payoffs.len() as f64],
+    );
+    let marks = bytes.clone();
+    let swept = Swept { number, bytes };
+    assert!(
+        sweep.answer(0, &[]) == Answer::Accepted(swept),
+        "two sweeps"
+    );
+    let mut lent = marks.clone();
+    listing(
+        &names("`equilibria`"),
+        [counts.len(), payoffs.len()],
+        |outputs| {
+            let (counts, payoffs) = input();
+            library::equilibria_into(counts, payoffs, outputs)
+        },
+        |choices, utilities| {
+            let (counts, payoffs) = input();
+            plain::equilibria(counts, payoffs, black_box(&mut lent), choices, utilities)
+        },
+    );
+    listing(
+        &names("`marked_profiles`"),
+        [counts.len(), payoffs.len()],
+        |outputs| {
+            let (counts, payoffs) = input();
+            library::marked_profiles_into(counts, payoffs, black_box(&marks), outputs)
+        },
+        |choices, utilities| {
+            let (counts, payoffs) = input();
+            plain::marked_profiles(counts, payoffs, black_box(&marks), choices, utilities)
+        },
+    );
+}
+
+/// A listing on a table of so many players and cells, into outputs that hold all.
+fn listing(
+    names: &[&str],
+    [players, cells]: [usize; 2],
+    library: impl Fn(&mut Equilibria) -> u32,
+    mut plain: impl FnMut(&mut [usize], &mut [f64]) -> Result<[usize; 2], u32>,
+) {
+    let mut outputs = Equilibria::fresh([cells; 2]);
+    let (mut choices, mut utilities) = (vec![0; cells], vec![0.0; cells]);
+    row(
+        names,
+        || library(&mut outputs),
+        || plain(black_box(&mut choices), black_box(&mut utilities)),
+    );
+    let [total, number] = plain(&mut choices, &mut utilities).unwrap();
+    choices.truncate(number * players);
+    utilities.truncate(number * players);
+    let listed = Listed {
+        total,
+        written: Listing {
+            number,
+            first: choices,
+            second: utilities.into_iter().map(Bits::of).collect(),
+        },
+    };
+    let told = outputs.answer(0, players);
+    assert!(told == Answer::Accepted(listed), "two listings");
 }
 
 /// The candidate checks at their limit, and the gain on 2 × 2. Payoffs are from 0 up to 1, so that

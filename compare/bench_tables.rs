@@ -111,6 +111,7 @@ pub fn bench(runs: &str, part: &str) {
     println!("{runs} runs; medians, with ranges; times in ns where nothing else is said");
     pairs("checks", &of("checks"));
     solvers(&of("solvers"));
+    marks(&of("marks"));
     elimination(&of("elimination"), &of("strike"));
     strike_checks(&of("strike"));
     pairs(
@@ -186,6 +187,9 @@ const RECORDS: usize = CALLS - 1;
 /// The tables of each shape.
 const KINDS: usize = 3;
 
+/// The shape that stands for small tables.
+const SMALLEST: &str = "2 × 2";
+
 /// The ratios of the calls beside each other, what is missed, and the lists of records.
 fn solvers(rows: &[&Row]) {
     if rows.is_empty() {
@@ -217,7 +221,7 @@ fn solvers(rows: &[&Row]) {
 /// How many times as fast as the Rust a call of the solvers is to be at least.
 fn aim(row: &Row) -> f64 {
     match (row.call(), row.names[2].as_str()) {
-        _ if row.names[1] == "2 × 2" => 1.0,
+        _ if row.names[1] == SMALLEST => 1.0,
         ("`equilibria`", "random") => 5.0,
         ("`equilibria`", "constant") => 10.0,
         (call, _) if call.starts_with("dominance") => 10.0,
@@ -270,6 +274,47 @@ fn records(rows: &[&Row]) {
     let lines: Vec<Vec<String>> = rows.chunks(KINDS * CALLS).map(line).collect();
     let columns = ["into two outputs", "as records"];
     table("best responses", &["shape"], &columns, &lines);
+}
+
+/// The calls on marks on one table: the sweep, the equilibria and the listing from the sweep's marks.
+const MARK_CALLS: usize = 3;
+
+/// Each call's time in ns and ratio, and the sweep's time for a cell.
+fn marks(rows: &[&Row]) {
+    if rows.is_empty() {
+        return;
+    }
+    let a_cell = |row: &Row| row.spread(|run| run[0] / run[2]);
+    let line = |table: &[&Row]| {
+        let mut fields = table[0].names[1..3].to_vec();
+        for row in table {
+            fields.extend([figure(row.median(0)), row.ratio().text(figure)]);
+        }
+        fields.insert(3, a_cell(table[0]).text(figure));
+        fields
+    };
+    let lines: Vec<Vec<String>> = rows.chunks(MARK_CALLS).map(line).collect();
+    let calls = rows[..MARK_CALLS].iter().map(|row| row.call());
+    let mut columns: Vec<&str> = calls
+        .clone()
+        .flat_map(|call| [call, "Rust / library (range)"])
+        .collect();
+    columns.insert(1, "a cell (range)");
+    table("marks, in ns", &["shape", "table"], &columns, &lines);
+    let larger = rows.iter().filter(|row| row.names[1] != SMALLEST);
+    let least = |call: &str| {
+        let rows = larger.clone().filter(|row| row.call() == call);
+        let least = rows.map(|row| row.ratio().least).reduce(f64::min);
+        format!("{} of {call}", figure(least.unwrap()))
+    };
+    let least: Vec<String> = calls.map(least).collect();
+    let sweeps = larger.step_by(MARK_CALLS);
+    let most = sweeps.map(|row| a_cell(row).most).reduce(f64::max);
+    println!(
+        "\nin any run, after {SMALLEST}: the least ratio {}; the most ns a cell {}",
+        least.join(", "),
+        figure(most.unwrap())
+    );
 }
 
 /// Eliminations in µs, with the checks' share of single strikes.

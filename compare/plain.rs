@@ -1,5 +1,6 @@
 //! Plain Rust, for the times: the finite check of a slice; a reader and a writer of deposit files,
-//! each a pass that checks and one that writes; and a table's catalogue number.
+//! each a pass that checks and one that writes; a table's catalogue number; and a sweep that marks
+//! best responses, with the listings by marks.
 
 use crate::catalogue::{COUNTS, NUMBERS};
 use crate::deposit::{CELL, CLOSING, COUNT, OPENING, PAYLOADS};
@@ -115,9 +116,9 @@ pub fn read(bytes: &[u8], counts: &mut [usize], payoffs: &mut [f64]) -> Result<u
     Ok(players)
 }
 
-/// The cells of a table.
+/// The cells of a table, whose payoffs are as many.
 #[inline(always)]
-fn checked(counts: &[usize], payoffs: &[f64]) -> Result<usize, u32> {
+fn sized(counts: &[usize], payoffs: &[f64]) -> Result<usize, u32> {
     if counts.is_empty() {
         return Err(1);
     }
@@ -135,8 +136,33 @@ fn checked(counts: &[usize], payoffs: &[f64]) -> Result<usize, u32> {
     if payoffs.len() != cells {
         return Err(6);
     }
+    Ok(cells)
+}
+
+/// The same, and they are finite.
+#[inline(always)]
+fn checked(counts: &[usize], payoffs: &[f64]) -> Result<usize, u32> {
+    let cells = sized(counts, payoffs)?;
     if !payoffs.iter().all(|payoff| payoff.is_finite()) {
         return Err(7);
+    }
+    Ok(cells)
+}
+
+/// The same, tested in runs without an exit, which are compiled to vector instructions; and there is
+/// a mark for each.
+#[inline(always)]
+fn checked_in_runs(counts: &[usize], payoffs: &[f64], marks: &[u8]) -> Result<usize, u32> {
+    let cells = sized(counts, payoffs)?;
+    let finite = |run: &[f64]| {
+        run.iter()
+            .fold(true, |all, payoff| all & payoff.is_finite())
+    };
+    if !payoffs.chunks(1_024).all(finite) {
+        return Err(7);
+    }
+    if marks.len() < cells {
+        return Err(13);
     }
     Ok(cells)
 }
@@ -204,4 +230,122 @@ pub fn number(
     let columns = |key: u16| (key & 0x3333) << 2 | key >> 2 & 0x3333;
     let least = key.min(rows(key)).min(columns(key)).min(rows(columns(key)));
     Ok(least_keys.binary_search(&least).ok())
+}
+
+/// Marks each cell: 1 where the payoff is the greatest of the player's row, else 0. A row's cells are
+/// `stride` from one another, and rows that overlap make up a block.
+#[inline(always)]
+fn sweep(counts: &[usize], payoffs: &[f64], marks: &mut [u8]) {
+    let players = counts.len();
+    let mut stride = players;
+    for (player, count) in counts.iter().enumerate().rev() {
+        let block = stride * count;
+        let mut first = 0;
+        while first < payoffs.len() {
+            let payoffs = &payoffs[first..first + block];
+            let marks = &mut marks[first..first + block];
+            let mut start = player;
+            while start < stride {
+                mark_row(payoffs, marks, start, stride);
+                start += players;
+            }
+            first += block;
+        }
+        stride = block;
+    }
+}
+
+/// Marks a row of a block.
+#[inline(always)]
+fn mark_row(payoffs: &[f64], marks: &mut [u8], start: usize, stride: usize) {
+    let mut greatest = payoffs[start];
+    let mut cell = start + stride;
+    while cell < payoffs.len() {
+        let payoff = payoffs[cell];
+        greatest = if payoff > greatest { payoff } else { greatest };
+        cell += stride;
+    }
+    cell = start;
+    while cell < payoffs.len() {
+        marks[cell] = u8::from(payoffs[cell] == greatest);
+        cell += stride;
+    }
+}
+
+/// Lists the profiles that have no 0 among their marks, as many as both outputs hold whole: how many
+/// there are, and how many are written.
+#[inline(always)]
+fn list(
+    counts: &[usize],
+    payoffs: &[f64],
+    marks: &[u8],
+    choices: &mut [usize],
+    utilities: &mut [f64],
+) -> [usize; 2] {
+    let players = counts.len();
+    let [mut total, mut written] = [0, 0];
+    let [mut first, mut room] = [0, 0];
+    let mut offset = 0;
+    while first < payoffs.len() {
+        let payoffs = &payoffs[first..first + players];
+        if !marks[first..first + players].contains(&0) {
+            total += 1;
+            let entry = room..room + players;
+            let outputs = (choices.get_mut(entry.clone()), utilities.get_mut(entry));
+            if let (Some(choices), Some(utilities)) = outputs {
+                let mut rest: u32 = offset;
+                for player in (0..players).rev() {
+                    let count = counts[player] as u32;
+                    choices[player] = (rest % count) as usize;
+                    utilities[player] = payoffs[player];
+                    rest /= count;
+                }
+                written += 1;
+                room += players;
+            }
+        }
+        first += players;
+        offset += 1;
+    }
+    [total, written]
+}
+
+/// How many marks are 1; the bytes past the cells keep their contents.
+#[inline(never)]
+pub fn best_response_marks(
+    counts: &[usize],
+    payoffs: &[f64],
+    marks: &mut [u8],
+) -> Result<usize, u32> {
+    let cells = checked_in_runs(counts, payoffs, marks)?;
+    let marks = &mut marks[..cells];
+    sweep(counts, payoffs, marks);
+    let runs = marks.chunks(usize::from(u8::MAX));
+    Ok(runs.map(|run| usize::from(run.iter().sum::<u8>())).sum())
+}
+
+#[inline(never)]
+pub fn marked_profiles(
+    counts: &[usize],
+    payoffs: &[f64],
+    marks: &[u8],
+    choices: &mut [usize],
+    utilities: &mut [f64],
+) -> Result<[usize; 2], u32> {
+    checked_in_runs(counts, payoffs, marks)?;
+    Ok(list(counts, payoffs, marks, choices, utilities))
+}
+
+/// All equilibria, by a sweep into marks that are lent, at least as many as cells.
+#[inline(never)]
+pub fn equilibria(
+    counts: &[usize],
+    payoffs: &[f64],
+    marks: &mut [u8],
+    choices: &mut [usize],
+    utilities: &mut [f64],
+) -> Result<[usize; 2], u32> {
+    checked_in_runs(counts, payoffs, marks)?;
+    sweep(counts, payoffs, marks);
+    Ok(list(counts, payoffs, marks, choices, utilities))
 }
