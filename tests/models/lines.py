@@ -184,6 +184,11 @@ def numbers_below(limit):
     return read
 
 
+def bytes_of(text):
+    """A list of bytes: of each number the remainder by 256."""
+    return [element % 256 for element in numbers(text)]
+
+
 def exactly(length, read):
     """The reader of a list of exactly so many elements."""
     def read_exactly(text):

@@ -13,7 +13,7 @@ from tables import (
     lowest_dominators,
     order_keys,
     write,
-    write_equilibria,
+    write_listing,
 )
 
 
@@ -157,4 +157,4 @@ def surviving_equilibria(counts, payoffs, survivors, choices, utilities):
     check_table(counts, payoffs)
     check_survivors(counts, survivors)
     found = equilibrium_list(counts, payoffs, standing_of(survivors))
-    return write_equilibria(counts, payoffs, found, choices, utilities)
+    return write_listing(counts, payoffs, found, choices, utilities)

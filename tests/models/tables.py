@@ -209,11 +209,8 @@ def advance_profile(counts, choices):
 
 # Best responses, dominance, equilibria.
 
-def best_response_list(counts, payoffs, player, opponents):
+def best_strategies(counts, payoffs, player, opponents):
     """Strategies whose payoff no other strategy of the player exceeds, ascending, and payoffs."""
-    check_table(counts, payoffs)
-    check_player(counts, player)
-    check_opponents(counts, player, opponents)
     own = []
     for strategy in range(counts[player]):
         profile = opponents[:player] + [strategy] + opponents[player:]
@@ -224,6 +221,13 @@ def best_response_list(counts, payoffs, player, opponents):
         if not any(key > keys[strategy] for key in keys):
             best.append((strategy, own[strategy]))
     return best
+
+
+def best_response_list(counts, payoffs, player, opponents):
+    check_table(counts, payoffs)
+    check_player(counts, player)
+    check_opponents(counts, player, opponents)
+    return best_strategies(counts, payoffs, player, opponents)
 
 
 def best_responses(counts, payoffs, player, opponents, strategies, utilities):
@@ -315,7 +319,7 @@ def equilibrium_list(counts, payoffs, standing):
     return found
 
 
-def write_equilibria(counts, payoffs, found, choices, utilities):
+def write_listing(counts, payoffs, found, choices, utilities):
     """The first that both outputs hold whole: P choices into one buffer, P payoffs into another.
 
     Returns the total and the number written (change N2).
@@ -344,4 +348,44 @@ def is_equilibrium(counts, payoffs, profile):
 def equilibria(counts, payoffs, choices, utilities):
     check_table(counts, payoffs)
     found = equilibrium_list(counts, payoffs, every_strategy(counts))
-    return write_equilibria(counts, payoffs, found, choices, utilities)
+    return write_listing(counts, payoffs, found, choices, utilities)
+
+
+# Marks, change N3: a lent buffer with a byte for each cell.
+
+def check_marks(counts, marks):
+    """13, for a buffer with fewer bytes than cells."""
+    check_outputs((marks, cell_number(counts)))
+
+
+def best_response_marks(counts, payoffs, marks):
+    """1 where the profile's choice is a best response of the cell's player, else 0.
+
+    Returns the number of 1 bytes written.
+    """
+    check_table(counts, payoffs)
+    check_marks(counts, marks)
+    players = len(counts)
+    strategies = every_strategy(counts)
+    cells = [0] * cell_number(counts)
+    for player in range(players):
+        for others in itertools.product(*strategies[:player], *strategies[player + 1:]):
+            opponents = list(others)
+            for best, payoff in best_strategies(counts, payoffs, player, opponents):
+                profile = opponents[:player] + [best] + opponents[player:]
+                cells[offset_of(counts, profile) * players + player] = 1
+    write(marks, cells)
+    return sum(cells)
+
+
+def marked_profiles(counts, payoffs, marks, choices, utilities):
+    """The profiles none of whose P marks is 0, whatever table they are from, as a listing."""
+    check_table(counts, payoffs)
+    check_marks(counts, marks)
+    players = len(counts)
+    found = []
+    for profile in itertools.product(*every_strategy(counts)):
+        start = offset_of(counts, profile) * players
+        if 0 not in marks[start:start + players]:
+            found.append(profile)
+    return write_listing(counts, payoffs, found, choices, utilities)
