@@ -26,13 +26,14 @@ ghost use Rattle.payoff_tables.specs.Meaning.{Table};
 ghost use Rattle.marks.specs.Marks.{marked};
 ghost use Rattle.equilibria.specs.Answers.{tableEquilibria, isEquilibriumAnswer, equilibriaAnswer, equilibriaChoices, equilibriaUtilities};
 ghost use Rattle.response_marks.specs.Marks.{settled};
-ghost use Rattle.response_marks.specs.Answers.{fromMarksAnswer, fromMarksChoices, fromMarksUtilities};
 ghost use Rattle.mark_responses.specs.Sweep.{Ready};
+ghost use Rattle.response_marks.specs.Answers.{fromMarksAnswer, fromMarksChoices, fromMarksUtilities};
 
 // ---- all equilibria among marks, by how many cells the table has
 
-// Tables of at most this many cells are marked in an array of as many bytes, and the others in one for any table: so a small table clears and
-// holds on the stack hardly more than it needs. Each array is in a function of its own, since a frame holds all the arrays of its function.
+// A table of at most so many cells is marked in an array of as many bytes, and any other in one of the most: so a small table clears and holds
+// on the stack hardly more than it needs. Each array is in a function of its own, since a frame holds all arrays of its function; and each
+// function is called by both listings, since the compiler merges one that has a single caller into that, frame and all.
 pub const SMALL_CELLS: usize = 64;
 
 pub const MIDDLE_CELLS: usize = 2048;
@@ -63,7 +64,7 @@ fn list_swept(
     profile_listing::list_marked(counts, payoffs, marks, profiles, choices, utilities)
 }
 
-// The same with bytes of its own, for a table of at most 64 cells,
+// The same with bytes of its own, for a table of at most 64 cells, which the caller proves.
 pub fn small_equilibria(
     counts: &[usize],
     payoffs: &[f64],
@@ -74,8 +75,7 @@ pub fn small_equilibria(
 ) -> Listed
     requires { ⌜ Table (now counts) (now payoffs) ⌝ }
     requires { ⌜ length (now survivors) ≡ maxMarks ⌝ }
-    requires { ⌜ profiles ≡ product (now counts) ⌝ }
-    requires { ⌜ length (now payoffs) ≤ 64 ⌝ }
+    requires { ⌜ (profiles ≡ product (now counts)) × (length (now payoffs) ≤ 64) ⌝ }
     ensures { λ r. ⌜ r ≡ listedOf (equilibria (tableGame (now (counts .entry)) (now (payoffs .entry))) (marked (now (survivors .entry)))) (length (now (counts .entry))) (length (now (choices .entry))) (length (now (utilities .entry))) ⌝ }
     ensures { λ r. ⌜ now (choices .exit) ≡ over (joined (r .written) (equilibria (tableGame (now (counts .entry)) (now (payoffs .entry))) (marked (now (survivors .entry))))) (now (choices .entry)) ⌝ }
     ensures { λ r. ⌜ now (utilities .exit) ≡ over (joined (r .written) (map (profilePart (now (counts .entry)) (now (payoffs .entry))) (equilibria (tableGame (now (counts .entry)) (now (payoffs .entry))) (marked (now (survivors .entry)))))) (now (utilities .entry)) ⌝ }
@@ -92,7 +92,7 @@ pub fn small_equilibria(
     )
 }
 
-// of at most 2,048,
+// The same for a table of at most 2,048 cells, which the caller proves.
 pub fn middle_equilibria(
     counts: &[usize],
     payoffs: &[f64],
@@ -103,12 +103,14 @@ pub fn middle_equilibria(
 ) -> Listed
     requires { ⌜ Table (now counts) (now payoffs) ⌝ }
     requires { ⌜ length (now survivors) ≡ maxMarks ⌝ }
-    requires { ⌜ profiles ≡ product (now counts) ⌝ }
-    requires { ⌜ length (now payoffs) ≤ 2048 ⌝ }
+    requires { ⌜ (profiles ≡ product (now counts)) × (length (now payoffs) ≤ 2048) ⌝ }
     ensures { λ r. ⌜ r ≡ listedOf (equilibria (tableGame (now (counts .entry)) (now (payoffs .entry))) (marked (now (survivors .entry)))) (length (now (counts .entry))) (length (now (choices .entry))) (length (now (utilities .entry))) ⌝ }
     ensures { λ r. ⌜ now (choices .exit) ≡ over (joined (r .written) (equilibria (tableGame (now (counts .entry)) (now (payoffs .entry))) (marked (now (survivors .entry))))) (now (choices .entry)) ⌝ }
     ensures { λ r. ⌜ now (utilities .exit) ≡ over (joined (r .written) (map (profilePart (now (counts .entry)) (now (payoffs .entry))) (equilibria (tableGame (now (counts .entry)) (now (payoffs .entry))) (marked (now (survivors .entry)))))) (now (utilities .entry)) ⌝ }
 {
+    if payoffs.len() <= SMALL_CELLS {
+        return small_equilibria(counts, payoffs, survivors, profiles, choices, utilities);
+    }
     let mut marks = [0u8; MIDDLE_CELLS];
     list_swept(
         counts,
@@ -121,7 +123,7 @@ pub fn middle_equilibria(
     )
 }
 
-// and of any number.
+// The same for any table.
 pub fn marked_equilibria(
     counts: &[usize],
     payoffs: &[f64],
@@ -137,6 +139,12 @@ pub fn marked_equilibria(
     ensures { λ r. ⌜ now (choices .exit) ≡ over (joined (r .written) (equilibria (tableGame (now (counts .entry)) (now (payoffs .entry))) (marked (now (survivors .entry))))) (now (choices .entry)) ⌝ }
     ensures { λ r. ⌜ now (utilities .exit) ≡ over (joined (r .written) (map (profilePart (now (counts .entry)) (now (payoffs .entry))) (equilibria (tableGame (now (counts .entry)) (now (payoffs .entry))) (marked (now (survivors .entry)))))) (now (utilities .entry)) ⌝ }
 {
+    if payoffs.len() <= SMALL_CELLS {
+        return small_equilibria(counts, payoffs, survivors, profiles, choices, utilities);
+    }
+    if payoffs.len() <= MIDDLE_CELLS {
+        return middle_equilibria(counts, payoffs, survivors, profiles, choices, utilities);
+    }
     let mut marks = [0u8; MAX_CELLS];
     list_swept(
         counts,

@@ -161,14 +161,7 @@ pub fn surviving_equilibria(
                 return ListingResult::Err(NormalFormError::ForeignSurvivors);
             }
             let marks = survivors.marks;
-            ListingResult::Ok(list_survivors(
-                counts,
-                payoffs,
-                &marks,
-                profiles,
-                choices,
-                utilities,
-            ))
+            ListingResult::Ok(list_survivors(counts, payoffs, &marks, profiles, choices, utilities))
         }
     }
 }
