@@ -266,7 +266,7 @@ static const struct {
     size_t cells, stack;
 } sizes[] = {
     {64, SIGVANYOR_STACK},
-    {2048, SIGVANYOR_STACK_EQUILIBRIA_2048},
+    {2048, SIGVANYOR_STACK},
     {CELLS, SIGVANYOR_STACK_EQUILIBRIA},
 };
 enum { SIZES = sizeof sizes / sizeof sizes[0] };

@@ -22,8 +22,9 @@
  *   SIGVANYOR_INVALID_STRATEGY           12  a choice is not below its player's count
  *   SIGVANYOR_NO_SURVIVING_STRATEGY      14  a strategy is not below its player's count, or struck
  *   SIGVANYOR_NOT_DOMINATED              15  no survivor strictly dominates the strategy
- *   SIGVANYOR_OUTPUT_TOO_SHORT           13  an output is shorter than the result needs; the two
- *                                            listings of equilibria write what fits instead
+ *   SIGVANYOR_OUTPUT_TOO_SHORT           13  an output is shorter than the result needs, or there
+ *                                            are fewer marks than cells; listings of profiles
+ *                                            write what fits instead
  * The reader of deposit files has an order of its own, see sigvanyor_read, and four more:
  *   SIGVANYOR_MISSING_WORD               17  the number of bytes is no multiple of 4, or a word
  *                                            that is due is absent
@@ -70,9 +71,10 @@
  * has no name, may be raised too.
  *
  * Stack. sigvanyor_equilibria and sigvanyor_surviving_equilibria take up to
- * SIGVANYOR_STACK_EQUILIBRIA bytes of stack, also for a table of 2 x 2, and every other call up to
- * SIGVANYOR_STACK. That includes what the dynamic linker takes where the first call binds memset or
- * memcpy. Both numbers are measured and rounded up, not proved.
+ * SIGVANYOR_STACK_EQUILIBRIA bytes of stack for a table of more than 2,048 cells, and up to
+ * SIGVANYOR_STACK for a smaller one; every other call takes up to SIGVANYOR_STACK. That includes
+ * what the dynamic linker takes where the first call binds memset or memcpy. Both numbers are
+ * measured and rounded up, not proved.
  */
 #ifndef SIGVANYOR_H
 #define SIGVANYOR_H
@@ -214,6 +216,23 @@ uint32_t sigvanyor_is_equilibrium(const size_t *counts, size_t counts_len, const
 uint32_t sigvanyor_equilibria(const size_t *counts, size_t counts_len, const double *payoffs, size_t payoffs_len,
                               size_t *choices, size_t choices_len, double *utilities, size_t utilities_len,
                               size_t *total, size_t *written);
+
+/* All best responses in one sweep. For each cell a byte into `marks`, where the cell stands, at
+ * offset x P + player: 1 where the profile's choice is a best response of that player, and else 0.
+ * How many are 1 into `number`: at least the sum, over the players, of profiles divided by that
+ * player's count, since every row has a best response. Bytes past the cells keep their contents. Or
+ * a refusal of the table, or SIGVANYOR_OUTPUT_TOO_SHORT where marks_len is less than the number of
+ * cells, and then `marks` is not touched. SIGVANYOR_MAX_CELLS bytes are always room enough. */
+uint32_t sigvanyor_best_response_marks(const size_t *counts, size_t counts_len, const double *payoffs, size_t payoffs_len,
+                                       uint8_t *marks, size_t marks_len, size_t *number);
+
+/* As sigvanyor_equilibria, of the profiles that have no 0 among their P marks: any other byte is a
+ * mark, and bytes past the cells are not read. On the marks of sigvanyor_best_response_marks these
+ * are the equilibria. Or a refusal of the table, or SIGVANYOR_OUTPUT_TOO_SHORT where marks_len is
+ * less than the number of cells; whether the marks are those of this table is not asked. */
+uint32_t sigvanyor_marked_profiles(const size_t *counts, size_t counts_len, const double *payoffs, size_t payoffs_len,
+                                   const uint8_t *marks, size_t marks_len, size_t *choices, size_t choices_len,
+                                   double *utilities, size_t utilities_len, size_t *total, size_t *written);
 
 /* The player's strategies that another of its strategies strictly dominates, ascending, into
  * `dominated`, the lowest dominator of each into `dominators`, and how many they are into `number`;
