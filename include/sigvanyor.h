@@ -105,7 +105,7 @@ enum {
 
 /* Bytes of stack. */
 enum {
-    SIGVANYOR_STACK_EQUILIBRIA = 147456,
+    SIGVANYOR_STACK_EQUILIBRIA = 73728,
     SIGVANYOR_STACK = 8192
 };
 

@@ -4,17 +4,23 @@ use mathlib.Core.Path.{_≡_, sym, ap, ap₂, _∙_}
 use mathlib.Core.List.{List}
 use mathlib.Core.Option.{none}
 use Prim.Native.Nat.{ℕ, _≤_}
+use borrow.Author.Tests.{ltb-false}
+use lib.Dec.{ltb}
 use lib.ListN.{length}
 use lib.Ieee.{Float}
 use Rattle.game.specs.Game.{whole}
-use Rattle.refusal.specs.Refusal.{Refusal}
-use Rattle.written_lists.specs.Outputs.{over}
+use Rattle.refusal.specs.Refusal.{Refusal, _then_}
+use Rattle.refusal.specs.Told.{values}
+use Rattle.refusal.specs.declared.NormalFormError.the-variants.{OutputTooShort}
+use Rattle.refusal.proofs.Refusal.{when-none, then-none}
+use Rattle.refusal.proofs.Told.{told-values}
+use Rattle.written_lists.specs.Outputs.{over, shortRefusal}
 use Rattle.written_lists.proofs.Outputs.{over-length}
 use Rattle.payoff_tables.specs.Table.{cells, tableGame}
 use Rattle.payoff_tables.specs.Checks.{tableRefusal}
 use Rattle.equilibria.specs.Answers.{listingAnswer, listedChoices, listedUtilities, tableEquilibria, equilibriaAnswer, equilibriaChoices, equilibriaUtilities}
 use Rattle.response_marks.specs.Marks.{markedProfiles}
-use Rattle.response_marks.specs.Answers.{tableMarks, marksRefusal, marksWritten, fromMarksAnswer, fromMarksChoices, fromMarksUtilities}
+use Rattle.response_marks.specs.Answers.{tableMarks, marksRefusal, marksAnswer, marksWritten, fromMarksAnswer, fromMarksChoices, fromMarksUtilities}
 use Rattle.response_marks.proofs.Marks.{marks-enough, marks-fit, marks-length, marks-listed}
 
 module _ (counts : List ℕ) (payoffs : List Float) (old : List ℕ) (h : tableRefusal counts payoffs ≡ none) (room : cells counts ≤ length old) where
@@ -47,3 +53,12 @@ module _ (counts : List ℕ) (payoffs : List Float) (old : List ℕ) (h : tableR
 
     pub same-utilities : fromMarksUtilities counts payoffs swept a b ≡ equilibriaUtilities counts payoffs a b
     same-utilities = ap₂ (λ (r : Refusal) (es : List (List ℕ)). listedUtilities counts payoffs r es a b) same-refusal same-profiles
+
+-- Where the sweep told a number the table is accepted, and there are enough bytes.
+pub swept-accepted : (counts : List ℕ) (payoffs : List Float) (old : List ℕ) (n : ℕ) → values n ≡ marksAnswer counts payoffs (length old)
+    → (tableRefusal counts payoffs ≡ none) × (cells counts ≤ length old)
+unfolding marksRefusal marksAnswer
+swept-accepted counts payoffs old n h =
+    let (ok, is) = told-values (tableRefusal counts payoffs then shortRefusal (cells counts) (length old)) _ n h in
+    let (table, bytes) = then-none (tableRefusal counts payoffs) _ .0 ok in
+    (table, ltb-false (length old) (cells counts) (when-none (ltb (length old) (cells counts)) OutputTooShort .0 bytes))

@@ -2,7 +2,7 @@
 use mathlib.Core.Path.{_≡_, refl, sym, ap, ap₂, _∙_}
 use mathlib.Core.Bool.{Bool, true, false, not, _&&_}
 use mathlib.Core.List.{List, [], _∷_, _++_, map, flatMap, List·Memᴰ·head as here, List·Memᴰ·tail as there}
-use mathlib.Core.Logic.{_↔_, Iff·trans, Iff·symm}
+use mathlib.Core.Logic.{_↔_, _⊎_, inl, inr, Iff·trans, Iff·symm}
 use mathlib.Core.Option.{none, some}
 use Prim.Native.Nat.{ℕ, _+_, _*_, _-_, _≤_, _<_}
 use native.Mathlib.Omega.{arith}
@@ -17,7 +17,7 @@ use Rattle.game.specs.Game.{Game, players, choice, Profile, profiles, Marks}
 use Rattle.game.specs.Solution.{bestResponse, equilibrium, equilibria}
 use Rattle.game.specs.Meaning.{Best}
 use Rattle.game.specs.Ordinal.{SameMarks}
-use Rattle.game.proofs.Finite.{same-test, below-mem, length-below, filter-cong, map-cong, length-flatMap, sum-equal}
+use Rattle.game.proofs.Finite.{no-T, eqb-T, all-T, filter-mem, same-test, below-mem, length-below, filter-cong, map-cong, length-flatMap, sum-equal}
 use Rattle.game.proofs.Game.{length-profiles, profiles-law}
 use Rattle.game.proofs.Solution.{bestResponse-law, equilibrium-each}
 use Rattle.refusal.specs.Refusal.{numberOf}
@@ -31,6 +31,14 @@ use Rattle.payoff_tables.specs.Checks.{tableRefusal}
 use Rattle.payoff_tables.proofs.Offsets.{getD-map, getD-flatMap, getD-below, offset-below, nth-offset}
 use Rattle.response_marks.specs.Marks.{settled, profileMarks, responseMarks, ones, allMarked, markedProfiles}
 use Rattle.response_marks.specs.Answers.{tableMarks, marksRefusal, marksAnswer, marksWritten}
+
+one-T : (b : Bool) → (byteOf b ≡ 1) ↔ T b
+one-T true = (λ _. tt, λ _. refl)
+one-T false = (λ e. omega (arith, e), λ t. absurd t)
+
+either-byte : (b : Bool) → (byteOf b ≡ 1) ⊎ (byteOf b ≡ 0)
+either-byte true = inl refl
+either-byte false = inr refl
 
 module _ (g : Game) (m : Marks) where
   profile-length : (x : List ℕ) → length (profileMarks g m x) ≡ players g
@@ -54,6 +62,15 @@ module _ (g : Game) (m : Marks) where
       ∙ getD-map (λ p. byteOf (settled g m (getD (profiles (g .counts)) k []) p)) (below (players g)) p 0 0 (rw length-below l)
       ∙ ap (λ (n : ℕ). byteOf (settled g m (getD (profiles (g .counts)) k []) n)) (getD-below (players g) p l)
 
+  -- It is 1 where the choice is a best response, in quantifiers, and else 0.
+  pub mark-one : (x : List ℕ) (p : ℕ) → (byteOf (settled g m x p) ≡ 1) ↔ Best g m p x (choice x p)
+  unfolding settled
+  mark-one x p = Iff·trans (one-T (bestResponse g m p x (choice x p))) (bestResponse-law g m p x (choice x p))
+
+  pub mark-or-zero : (k p : ℕ) → k < product (g .counts) → p < players g
+      → (getD (responseMarks g m) (k * players g + p) 0 ≡ 1) ⊎ (getD (responseMarks g m) (k * players g + p) 0 ≡ 0)
+  mark-or-zero k p h l = rw (marks-at k p h l) (either-byte (settled g m (getD (profiles (g .counts)) k []) p))
+
 -- ---- the marks over what stood there
 
 module _ {A : Type 0} (xs old : List A) (i : ℕ) (d : A) where
@@ -75,6 +92,17 @@ module _ (counts : List ℕ) (payoffs : List Float) (m : Marks) (old : List ℕ)
       ∙ marks-at (tableGame counts payoffs) m k p h l
 
 -- ---- the profiles that have no 0
+
+-- A profile is listed where none of its marks is 0.
+pub marked-law : (counts marks x : List ℕ)
+    → (x ∈ markedProfiles counts marks) ↔ (Profile counts x × ((p : ℕ) → p < length counts → getD marks (cell counts x p) 0 ≡ 0 → ⊥))
+unfolding markedProfiles
+marked-law counts marks x =
+    Iff·trans (filter-mem (allMarked counts marks) (profiles counts) x)
+    (simp (all-T, below-mem, no-T, eqb-T) (
+      λ (i, h). (profiles-law counts .members x .0 i, h),
+      λ (r, h). (profiles-law counts .members x .1 r, h),
+    ))
 
 all-same : {A : Type 0} (f h : A → Bool) (xs : List A) → ((a : A) → a ∈ xs → f a ≡ h a) → all f xs ≡ all h xs
 all-same f h [] e = refl

@@ -1,0 +1,19 @@
+-- `test_marks::first_bytes` is safe: the part ends within the bytes.
+-- Assumes nothing.
+use lib.ListN.{length-take}
+use native.Mathlib.Omega.{arith}
+use borrow.Author.Needs.{needs}
+use Rattle.test_marks.proofs.first_bytes.Statement.{statement}
+use Rattle.test_marks.proofs.first_bytes.Tie as tie
+
+slice-aggregate-result : tie.Need-slice-aggregate-result
+slice-aggregate-result c = rw length-take (omega arith)
+
+returns : tie.Need-returns
+returns c = search needs
+
+returns-2 : tie.Need-returns-2
+returns-2 c = search needs
+
+pub first-bytes-spec : {M : Type 1} → statement M
+first-bytes-spec = tie.close (tie.spec slice-aggregate-result returns returns-2)
