@@ -1,6 +1,6 @@
 //! The comparison of the sweep that marks best responses, and of the listing from marks. The Rust judges a sweep by its
 //! best responses of every row, and the listing from a sweep's marks by its equilibria; of other marks it cannot be
-//! asked. Document 02's marks stand beside both.
+//! asked. Change N3's marks stand beside both.
 
 use crate::cases::{self, Random};
 use crate::document::{self, CELLS, STRATEGIES};

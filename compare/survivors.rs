@@ -1,4 +1,4 @@
-//! Document 01's survivors, strikes and equilibria, and document 02's marks of best responses, written from their text
+//! Document 01's survivors, strikes and equilibria, and change N3's marks of best responses, written from their text
 //! alone: the sets of strategies that are left, and every profile of them. The judge where the Rust is none, and a second
 //! one beside it.
 

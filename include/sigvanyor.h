@@ -89,9 +89,9 @@ extern "C" {
 
 /* Enumerations, so that they are constants of C and of C++. */
 
-/* The number of this interface. It goes up with each change of a C signature or of a limit. A
- * deposit file has an edition of its own. */
-enum { SIGVANYOR_INTERFACE = 2 };
+/* The number of this interface. It goes up with each change of a C signature, of a limit or of the
+ * bytes of stack below. A deposit file has an edition of its own. */
+enum { SIGVANYOR_INTERFACE = 3 };
 
 /* Limits. */
 enum {
@@ -220,9 +220,10 @@ uint32_t sigvanyor_equilibria(const size_t *counts, size_t counts_len, const dou
 /* All best responses in one sweep. For each cell a byte into `marks`, where the cell stands, at
  * offset x P + player: 1 where the profile's choice is a best response of that player, and else 0.
  * How many are 1 into `number`: at least the sum, over the players, of profiles divided by that
- * player's count, since every row has a best response. Bytes past the cells keep their contents. Or
- * a refusal of the table, or SIGVANYOR_OUTPUT_TOO_SHORT where marks_len is less than the number of
- * cells, and then `marks` is not touched. SIGVANYOR_MAX_CELLS bytes are always room enough. */
+ * player's count, since each player has a best response whatever the others choose. Bytes past the
+ * cells keep their contents. Or a refusal of the table, or SIGVANYOR_OUTPUT_TOO_SHORT where
+ * marks_len is less than the number of cells, and then nothing is written. SIGVANYOR_MAX_CELLS
+ * bytes are always room enough. */
 uint32_t sigvanyor_best_response_marks(const size_t *counts, size_t counts_len, const double *payoffs, size_t payoffs_len,
                                        uint8_t *marks, size_t marks_len, size_t *number);
 

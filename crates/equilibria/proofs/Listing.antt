@@ -17,16 +17,10 @@ use Rattle.written_lists.specs.Listing.{listedOf}
 use Rattle.written_lists.proofs.Outputs.{refused-kept, joined-map}
 use Rattle.written_lists.proofs.Listing.{listed-all}
 use Rattle.payoff_tables.specs.Table.{profilePart}
-use Rattle.equilibria.specs.Answers.{listingAnswer, listedChoices, listedUtilities}
+use Rattle.equilibria.specs.Answers.{Wrote, listingAnswer, listedChoices, listedUtilities}
 
 module _ (counts : List ℕ) (payoffs : List Float) (es : List (List ℕ)) where
   module _ (old choices : List ℕ) (old′ utilities : List Float) where
-    -- l tells both numbers, and of each output the first so many are written
-    abbrev pub Wrote : Listed → Type 0
-    Wrote l =
-        (l ≡ listedOf es (length counts) (length old) (length old′))
-        × ((choices ≡ over (joined (l .written) es) old) × (utilities ≡ over (joined (l .written) (map (profilePart counts payoffs) es)) old′))
-
     -- the listing of es, unless r refuses, tells t and leaves this in its outputs
     abbrev pub Answered : Refusal → Told Listed → Type 0
     Answered r t =
@@ -35,7 +29,7 @@ module _ (counts : List ℕ) (payoffs : List Float) (es : List (List ℕ)) where
         × (utilities ≡ over (listedUtilities counts payoffs r es (length old) (length old′)) old′))
 
     -- Where nothing refuses, that is the listing.
-    pub listing-told : (r : Refusal) → r ≡ none → (l : Listed) → Wrote l → Answered r (values l)
+    pub listing-told : (r : Refusal) → r ≡ none → (l : Listed) → Wrote counts payoffs es old choices old′ utilities l → Answered r (values l)
     unfolding listingAnswer listedChoices listedUtilities
     listing-told r h l (is, (first, second)) =
         rw h (

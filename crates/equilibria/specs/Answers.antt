@@ -1,5 +1,6 @@
 -- What the calls on equilibria answer and write: the definitions that their contracts name. Assumes
 -- nothing.
+use mathlib.Core.Path.{_≡_}
 use mathlib.Core.Bool.{Bool}
 use mathlib.Core.List.{List, map}
 use Prim.Native.Nat.{ℕ}
@@ -10,10 +11,17 @@ use Rattle.game.specs.Solution.{equilibrium, equilibria}
 use Rattle.refusal.specs.Refusal.{Refusal, _then_}
 use Rattle.refusal.specs.Told.{Told, unless}
 use Rattle.refusal.specs.declared.Listed.{Listed}
-use Rattle.written_lists.specs.Outputs.{writtenOf, joined}
+use Rattle.written_lists.specs.Outputs.{writtenOf, joined, over}
 use Rattle.written_lists.specs.Listing.{listedOf}
 use Rattle.payoff_tables.specs.Table.{profilePart, tableGame}
 use Rattle.payoff_tables.specs.Checks.{tableRefusal, profileRefusal}
+
+-- Of the profiles es, l tells how many there are and how many of them are written, and of each output the first so many are: P choices, and P
+-- payoffs.
+abbrev pub Wrote : List ℕ → List Float → List (List ℕ) → List ℕ → List ℕ → List Float → List Float → Listed → Type 0
+Wrote counts payoffs es before choices before′ utilities l =
+    (l ≡ listedOf es (length counts) (length before) (length before′))
+    × ((choices ≡ over (joined (l .written) es) before) × (utilities ≡ over (joined (l .written) (map (profilePart counts payoffs) es)) before′))
 
 module _ (counts : List ℕ) (payoffs : List Float) where
   -- the equilibria of the whole table, in profile order

@@ -3,4 +3,4 @@ use Prim.Native.Nat.{ℕ}
 
 -- it goes up with each change of a C signature or of a limit
 abbrev pub interface : ℕ
-interface = 2
+interface = 3

@@ -13,10 +13,11 @@ use table::StrategySpace;
 use utility::Utility;
 ghost use mathlib.Core.Path.{_≡_};
 ghost use mathlib.Core.List.{map};
+ghost use Prim.Native.Nat.{ℕ};
 ghost use Rattle.game.specs.Finite.{all};
 ghost use Rattle.game.specs.Game.{strategy as named};
 ghost use lib.ListN.{length};
-ghost use Rattle.refusal.specs.Told.{unless, toldOf, status, byteOf};
+ghost use Rattle.refusal.specs.Told.{values, unless, toldOf, status, byteOf};
 ghost use Rattle.written_lists.specs.Outputs.{over};
 ghost use Rattle.payoff_order.specs.Order.{finite};
 ghost use Rattle.utility.specs.Value.{utilityAnswer};
@@ -26,7 +27,7 @@ ghost use Rattle.table.specs.Space.{spaceOf};
 ghost use Rattle.profile_step.specs.Step.{step};
 ghost use Rattle.responses.specs.Answers.{responseUtilities, responsesAnswer, responsesWritten};
 ghost use Rattle.equilibria.specs.Answers.{isEquilibriumAnswer, equilibriaAnswer, equilibriaChoices, equilibriaUtilities};
-ghost use Rattle.response_marks.specs.Answers.{marksAnswer, marksWritten, fromMarksAnswer, fromMarksChoices, fromMarksUtilities};
+ghost use Rattle.response_marks.specs.Answers.{marksAnswer, marksWritten, Counted, fromMarksAnswer, fromMarksChoices, fromMarksUtilities};
 ghost use Rattle.dominance.specs.Answers.{strategiesOf, dominatorsOf, dominatedAnswer, dominatedWritten};
 ghost use Rattle.survivors.specs.Survivors.{freshOf};
 ghost use Rattle.strikes.specs.Answers.{strikeAnswer, strikeLeaves, survivingAnswer, survivingChoices, survivingUtilities};
@@ -39,8 +40,8 @@ ghost use Rattle.c_answers.specs.Status.{output, beside, someByte, orZero, part
 ghost use Rattle.exports.specs.Interface.{interface};
 
 // The number of this interface, SIGVANYOR_INTERFACE of the header. It goes up with each change of a
-// C signature or of a limit.
-pub const INTERFACE: u32 = 2;
+// C signature, of a limit or of the stack that the header names.
+pub const INTERFACE: u32 = 3;
 
 // The number of the interface that the archive was built with.
 #[no_mangle]
@@ -260,6 +261,7 @@ pub extern "C" fn sigvanyor_best_response_marks(
     ensures { λ r. ⌜ r ≡ status (marksAnswer (now (counts .entry)) (now (payoffs .entry)) (length (now (marks .entry)))) ⌝ }
     ensures { λ r. ⌜ now (number .exit) ≡ output (marksAnswer (now (counts .entry)) (now (payoffs .entry)) (length (now (marks .entry)))) (now (number .entry)) ⌝ }
     ensures { λ r. ⌜ now (marks .exit) ≡ over (marksWritten (now (counts .entry)) (now (payoffs .entry)) (length (now (marks .entry)))) (now (marks .entry)) ⌝ }
+    ensures { λ r. ⌜ ((n : ℕ) → marksAnswer (now (counts .entry)) (now (payoffs .entry)) (length (now (marks .entry))) ≡ values n → Counted (now (counts .entry)) n (now (marks .exit))) ⌝ }
 {
     let answer = mark_responses::best_response_marks(counts, payoffs, marks);
     c_outputs::usize_into(answer, number)

@@ -1,18 +1,18 @@
 -- How many profiles pass a test that passes for some choice of one player, whatever the others choose: at least as many as the others have
--- choices. So a player's choice is a best response in at least that many profiles.
-use mathlib.Core.Path.{_≡_, refl, sym, ap, _∙_, fun-ext}
+-- choices. So a player's choice is a best response in at least that many profiles. Assumes nothing.
+use mathlib.Core.Path.{_≡_, refl, ap, _∙_, fun-ext}
 use mathlib.Core.Bool.{Bool, true, false, cond}
-use mathlib.Core.List.{List, [], _∷_, _++_, map, flatMap, List·Memᴰ·head as here, List·Memᴰ·tail as there, List·Memᴰ·not-nil as not-in-nil, List·Memᴰ·cases-cons as in-cons}
+use mathlib.Core.List.{List, [], _∷_, map, flatMap, List·Memᴰ·head as here, List·Memᴰ·tail as there, List·Memᴰ·not-nil as not-in-nil, List·Memᴰ·cases-cons as in-cons}
 use mathlib.Core.Logic.{⊎-elim}
-use Prim.Native.Nat.{ℕ, zero, suc, _+_, _*_, _≤_, _<_, suc-le-suc}
+use Prim.Native.Nat.{ℕ, zero, suc, _+_, _*_, _≤_, _<_}
 use native.Mathlib.Nat.{not-suc-le-zero, le-of-suc-le-suc, zero-mul, one-mul, suc-mul, mul-assoc}
 use native.Mathlib.Omega.{arith}
 use lib.Dec.{T}
 use lib.ListN.{length, getD, set, take, drop, length-append}
 use lib.Seq.{getD-set-same}
 use Rattle.game.specs.Finite.{_∈_, below, sum, product, filter}
-use Rattle.game.specs.Game.{Game, players, count, Playable, choice, Profile, profiles, Marks, whole}
-use Rattle.game.specs.Solution.{bestResponse, bestResponses}
+use Rattle.game.specs.Game.{Game, players, count, choice, Profile, profiles, Marks}
+use Rattle.game.specs.Solution.{bestResponse}
 use Rattle.game.proofs.Finite.{test-true, below-mem, length-below, filter-append}
 use Rattle.game.proofs.Game.{cons-profile, profiles-law, length-profiles}
 use Rattle.game.proofs.Solution.{bestResponse-law, bestResponses-law, best-place, best-exists}
@@ -21,7 +21,7 @@ use Rattle.game.proofs.Solution.{bestResponse-law, bestResponses-law, b
 
 module _ {A B : Type 0} (f : B → Bool) where
   -- of a mapped list,
-  pub filter-map : (h : A → B) (xs : List A) → length (filter f (map h xs)) ≡ length (filter (λ a. f (h a)) xs)
+  filter-map : (h : A → B) (xs : List A) → length (filter f (map h xs)) ≡ length (filter (λ a. f (h a)) xs)
   filter-map h [] = refl
   filter-map h (x ∷ xs) = step (f (h x)) (filter-map h xs)
     where
@@ -31,7 +31,7 @@ module _ {A B : Type 0} (f : B → Bool) where
       step false e = e
 
   -- and of lists joined
-  pub filter-joined : (h : A → List B) (xs : List A) → length (filter f (flatMap h xs)) ≡ sum (map (λ a. length (filter f (h a))) xs)
+  filter-joined : (h : A → List B) (xs : List A) → length (filter f (flatMap h xs)) ≡ sum (map (λ a. length (filter f (h a))) xs)
   unfolding flatMap
   filter-joined h [] = refl
   filter-joined h (x ∷ xs) =
@@ -39,7 +39,7 @@ module _ {A B : Type 0} (f : B → Bool) where
       ∙ ap (λ n. length (filter f (h x)) + n) (filter-joined h xs)
 
 -- each part of a sum is at least n
-pub sum-least : {A : Type 0} (f : A → ℕ) (n : ℕ) (xs : List A) → ((a : A) → a ∈ xs → n ≤ f a) → length xs * n ≤ sum (map f xs)
+sum-least : {A : Type 0} (f : A → ℕ) (n : ℕ) (xs : List A) → ((a : A) → a ∈ xs → n ≤ f a) → length xs * n ≤ sum (map f xs)
 sum-least f n [] h = rw zero-mul (omega arith)
 sum-least f n (x ∷ xs) h = omega (arith, suc-mul (length xs) n, h x (here refl), sum-least f n xs (λ a k. h a (there k)))
 
@@ -89,7 +89,7 @@ by-first c cs f =
     ∙ ap (λ g. sum (map g (below c))) (fun-ext (λ s. filter-map f (λ x. s ∷ x) (profiles cs)))
 
 -- A test of profiles that passes for some choice of player p, whatever the others choose, passes for at least so many.
-pub rows-pass : (cs : List ℕ) (p : ℕ) (f : List ℕ → Bool) → p < length cs → 0 < getD cs p 0
+rows-pass : (cs : List ℕ) (p : ℕ) (f : List ℕ → Bool) → p < length cs → 0 < getD cs p 0
     → ((x : List ℕ) → Profile cs x → (t : ℕ) × (t < getD cs p 0) × T (f (set x p t)))
     → rows cs p ≤ length (filter f (profiles cs))
 rows-pass [] p f l some h = absurd (not-suc-le-zero l)

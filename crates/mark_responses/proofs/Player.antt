@@ -1,23 +1,23 @@
 -- The rows of one player: each profile is in the row that begins at its base, the profile with 0 in the player's place. They stand in blocks, in
 -- each of which as many as the player's stride are side by side. Assumes nothing.
 use mathlib.Core.Path.{_≡_, refl, sym, ap, ap₂, _∙_, subst, subst⁻¹}
-use mathlib.Core.Bool.{Bool, true, false, not}
+use mathlib.Core.Bool.{Bool, false}
 use mathlib.Core.List.{List, [], _∷_, map, List·Memᴰ·not-nil as not-in-nil, List·Memᴰ·cases-cons as in-cons}
 use mathlib.Core.Logic.{_↔_, _⊎_, Iff·trans, Iff·symm, Iff·rfl, ⊎-elim}
-use Prim.Native.Nat.{ℕ, zero, suc, _+_, _*_, _-_, _/_, _%_, _≤_, _<_, zero-le, suc-le-suc}
+use Prim.Native.Nat.{ℕ, suc, _+_, _*_, _-_, _/_, _%_, _≤_, _<_, zero-le, suc-le-suc}
 use native.Mathlib.Nat.{mul-assoc, mul-comm, add-mul, one-mul, mod-lt, div-add-mod', mul-le-mul-right, le-trans, mul-div-cancel-left}
 use native.Mathlib.Omega.{arith}
 use lib.Arith.{digits-lt, digits-div, digits-mod}
-use lib.Dec.{T, ltb}
+use lib.Dec.{T}
 use lib.ListN.{length, getD, take, length-map}
 use lib.Ieee.{Float}
-use Rattle.game.specs.Finite.{_∈_, all, below, filter, product}
-use Rattle.game.specs.Game.{choice, profiles}
+use Rattle.game.specs.Finite.{_∈_, product}
+use Rattle.game.specs.Game.{profiles}
 use Rattle.game.proofs.Finite.{le-or-lt, no-T, ltb-T, all-T, at-most, either, test-false, same-test, below-mem, filter-mem}
 use Rattle.refusal.specs.Told.{byteOf}
 use Rattle.payoff_tables.specs.Limits.{maxPlayers, maxStrategies, maxCells}
 use Rattle.payoff_tables.specs.Table.{stride, cellRank, tableGame}
-use Rattle.payoff_tables.specs.Meaning.{Shape, Table}
+use Rattle.payoff_tables.specs.Meaning.{Table}
 use Rattle.payoff_tables.proofs.Offsets.{product-split, product-drop, drop-at-most, drop-positive, take-positive, take-at-most, getD-map, getD-mem, stride-positive, walk-at-most}
 use Rattle.payoff_tables.proofs.Walk.{shape-some, shape-room, step-room}
 use Rattle.marks.specs.Marks.{marked}
@@ -25,7 +25,7 @@ use Rattle.strategy_row.specs.Row.{rowBest}
 use Rattle.strategy_row.proofs.Row.{rowBest-T}
 use Rattle.strategy_row.proofs.Change.{best-row}
 use Rattle.response_marks.specs.Marks.{settled}
-use Rattle.mark_responses.specs.Sweep.{markedOf, stepRank, rowTop, Nested, Within, CellOf, Marked, Wants, RowsMarked, choiceAt, Ready, PlayerMarked}
+use Rattle.mark_responses.specs.Sweep.{markedOf, stepRank, rowTop, Nested, Within, CellOf, BytesMarked, Wants, RowsMarked, choiceAt, Ready, PlayerMarked}
 
 -- ---- the marked strategies and the cells of a row
 
@@ -205,7 +205,7 @@ module _ (counts : List ℕ) (payoffs : List Float) (survivors : List Bool) (tab
         player-rows before marks ready rows =
             record { long = m .long; done = done; kept = λ d h. ⊎-elim (λ e. e) (λ (st, i, at, l, e). let (k, a, _, f, _) = cell-of st i (to st at) l in absurd (h k a (e ∙ f))) (m .each d) }
           where
-            m : Marked want (CellOf steps (length steps) S) before marks
+            m : BytesMarked want (CellOf steps (length steps) S) before marks
             m = rows want wants
 
             done : (k : ℕ) → k < product counts → getD marks (k * P + p) 0 ≡ byteOf (best k)

@@ -3,7 +3,7 @@ use mathlib.Core.Path.{_≡_, refl, sym, ap, _∙_, subst}
 use mathlib.Core.Bool.{Bool, true, false}
 use mathlib.Core.List.{List, []}
 use mathlib.Core.Logic.{_⊎_, inl, inr, ⊎-elim}
-use Prim.Native.Nat.{ℕ, zero, suc, _+_, _*_, _/_, _%_, _≤_, _<_}
+use Prim.Native.Nat.{ℕ, _+_, _*_, _/_, _%_, _≤_, _<_}
 use native.Mathlib.Nat.{eq-or-lt-of-le, mod-lt}
 use native.Mathlib.Omega.{arith}
 use lib.Arith.{digits-lt, digits-mod}
@@ -15,30 +15,31 @@ use Rattle.game.specs.Game.{profiles}
 use Rattle.game.proofs.Finite.{le-or-lt}
 use Rattle.refusal.specs.Told.{byteOf}
 use Rattle.written_lists.specs.Outputs.{over}
-use Rattle.written_lists.proofs.Outputs.{over-length}
-use Rattle.payoff_tables.specs.Limits.{maxStrategies, maxMarks}
+use Rattle.written_lists.proofs.Outputs.{over-length, over-rest}
+use Rattle.payoff_tables.specs.Limits.{maxMarks}
 use Rattle.payoff_tables.specs.Table.{cells, stride, tableGame}
 use Rattle.payoff_tables.specs.Meaning.{Shape}
 use Rattle.payoff_tables.proofs.Offsets.{digits}
+use Rattle.table.proofs.Space.{zeros}
 use Rattle.marks.specs.Marks.{markPlace, marked}
 use Rattle.marks.proofs.Marks.{mark-inside}
 use Rattle.response_marks.specs.Marks.{settled, responseMarks}
-use Rattle.response_marks.proofs.Marks.{marks-length, marks-over, over-rest}
-use Rattle.mark_responses.specs.Sweep.{choiceAt, Ready, PlayerMarked, AllMarked}
+use Rattle.response_marks.proofs.Marks.{marks-length, marks-over}
+use Rattle.mark_responses.specs.Sweep.{choiceAt, Ready, PlayerMarked, PlayersMarked}
 
 module _ (counts : List ℕ) (payoffs : List Float) (survivors : List Bool) (before : List ℕ) where
   -- none yet
-  pub all-none : AllMarked counts payoffs survivors (length counts) before before
+  pub all-none : PlayersMarked counts payoffs survivors (length counts) before before
   all-none = record { long = refl; done = λ k q h l m. absurd (omega arith); todo = λ k q h l m. refl; kept = λ c h. refl }
 
   -- a player that is not marked yet finds its bytes as they were
-  pub still-ready : (p : ℕ) (marks : List ℕ) → p < length counts → Ready counts survivors p before → AllMarked counts payoffs survivors (p + 1) before marks
+  pub still-ready : (p : ℕ) (marks : List ℕ) → p < length counts → Ready counts survivors p before → PlayersMarked counts payoffs survivors (p + 1) before marks
       → Ready counts survivors p marks
   still-ready p marks mine ready u k h = ⊎-elim (λ on. inl on) (λ (z : getD before (k * length counts + p) 0 ≡ 0). inr (u .todo k p h (omega arith) mine ∙ z)) (ready k h)
 
   -- one player more
-  pub all-more : (p : ℕ) (marks next : List ℕ) → p < length counts → AllMarked counts payoffs survivors (p + 1) before marks
-      → PlayerMarked counts payoffs survivors p marks next → AllMarked counts payoffs survivors p before next
+  pub all-more : (p : ℕ) (marks next : List ℕ) → p < length counts → PlayersMarked counts payoffs survivors (p + 1) before marks
+      → PlayerMarked counts payoffs survivors p marks next → PlayersMarked counts payoffs survivors p before next
   all-more p marks next mine u r =
       record {
         long = r .long ∙ u .long;
@@ -55,7 +56,7 @@ module _ (counts : List ℕ) (payoffs : List Float) (survivors : List Bool) (bef
           r .kept (k * length counts + q) (λ l h e. n (sym (digits-mod k m) ∙ ap (λ (i : ℕ). i % length counts) e ∙ digits-mod l mine))
 
   -- at the end it is the marks, over what stood there
-  pub all-end : (marks : List ℕ) → cells counts ≤ length before → AllMarked counts payoffs survivors 0 before marks
+  pub all-end : (marks : List ℕ) → cells counts ≤ length before → PlayersMarked counts payoffs survivors 0 before marks
       → marks ≡ over (responseMarks (tableGame counts payoffs) (marked survivors)) before
   unfolding tableGame
   all-end marks room u =
@@ -79,12 +80,6 @@ whole-ready counts marks h p mine k l =
     getD-replicate maxMarks (markPlace p t) true false (mark-inside p t (omega (arith, h .few)) (omega (arith, h .high p mine, less))) in
     inl (rw e tt)
 
--- bytes that are all 0
-zeros : (n i : ℕ) → _≡_ {A = ℕ} (getD (replicate n 0) i 0) 0
-zeros zero i = refl
-zeros (suc n) zero = refl
-zeros (suc n) (suc i) = zeros n i
-
--- are, whatever is marked
+-- and bytes that are all 0 are, whatever is marked
 pub clear-ready : (counts : List ℕ) (survivors : List Bool) (n p : ℕ) → Ready counts survivors p (replicate n 0)
 clear-ready counts survivors n p k l = inr (zeros n (k * length counts + p))

@@ -12,17 +12,17 @@ use lib.Seq.{getD-set-same, getD-set-other}
 use lib.Ieee.{Float}
 use Rattle.game.proofs.Finite.{le-or-lt}
 use Rattle.refusal.specs.Told.{byteOf}
-use Rattle.mark_responses.specs.Sweep.{rowTop, Spaced, Nested, Within, CellOf, Marked, Wants, RowsMarked}
+use Rattle.mark_responses.specs.Sweep.{rowTop, Spaced, Nested, Within, CellOf, BytesMarked, Wants, RowsMarked}
 
 -- ---- two rows
 
 module _ (start gap : ℕ) where
   -- where one begins,
-  pub one-in : Spaced start gap 2 start
+  one-in : Spaced start gap 2 start
   one-in = (0, omega arith, omega arith)
 
   -- and the other
-  pub other-in : Spaced start gap 2 (start + gap)
+  other-in : Spaced start gap 2 (start + gap)
   other-in = (1, omega arith, omega arith)
 
   -- so that both lie within n cells
@@ -34,14 +34,14 @@ module _ (start gap : ℕ) where
 
 module _ (want : ℕ → Bool) (W : ℕ → Type 0) where
   -- the same cells, said otherwise
-  pub marked-same : (Y : ℕ → Type 0) {before marks : List ℕ} → ((c : ℕ) → W c → Y c) → ((c : ℕ) → Y c → W c)
-      → Marked want W before marks → Marked want Y before marks
+  marked-same : (Y : ℕ → Type 0) {before marks : List ℕ} → ((c : ℕ) → W c → Y c) → ((c : ℕ) → Y c → W c)
+      → BytesMarked want W before marks → BytesMarked want Y before marks
   marked-same Y to from m =
       record { long = m .long; on = λ c v. m .on c (from c v); each = λ c. ⊎-elim (λ e. inl e) (λ w. inr (to c w)) (m .each c) }
 
   -- one more
-  pub marked-put : {before marks : List ℕ} (c : ℕ) (v : ℕ) → Marked want W before marks → c < length marks → v ≡ byteOf (want c)
-      → Marked want (λ d. W d ⊎ (d ≡ c)) before (set marks c v)
+  marked-put : {before marks : List ℕ} (c : ℕ) (v : ℕ) → BytesMarked want W before marks → c < length marks → v ≡ byteOf (want c)
+      → BytesMarked want (λ d. W d ⊎ (d ≡ c)) before (set marks c v)
   marked-put {before} {marks} c v m inside e =
       record {
         long = length-set marks c v ∙ m .long;
@@ -59,8 +59,8 @@ module _ (want : ℕ → Bool) (W : ℕ → Type 0) where
       each d (no n) = ⊎-elim (λ e. inl (getD-set-other marks c d v 0 n ∙ e)) (λ w. inr (inl w)) (m .each d)
 
   -- and all that others mark
-  pub marked-then : (Y : ℕ → Type 0) {before between marks : List ℕ} → Marked want W before between → Marked want Y between marks
-      → Marked want (λ c. W c ⊎ Y c) before marks
+  marked-then : (Y : ℕ → Type 0) {before between marks : List ℕ} → BytesMarked want W before between → BytesMarked want Y between marks
+      → BytesMarked want (λ c. W c ⊎ Y c) before marks
   marked-then Y m n =
       record {
         long = n .long ∙ m .long;
@@ -69,7 +69,7 @@ module _ (want : ℕ → Bool) (W : ℕ → Type 0) where
       }
 
 -- nothing yet
-pub marked-none : (want : ℕ → Bool) (W : ℕ → Type 0) (marks : List ℕ) → ((c : ℕ) → W c → ⊥) → Marked want W marks marks
+marked-none : (want : ℕ → Bool) (W : ℕ → Type 0) (marks : List ℕ) → ((c : ℕ) → W c → ⊥) → BytesMarked want W marks marks
 marked-none want W marks n = record { long = refl; on = λ c w. absurd (n c w); each = λ c. inl refl }
 
 -- ---- rows
@@ -80,7 +80,7 @@ module _ (payoffs : List Float) (steps : List ℕ) where
   rows-none S marks n want w = marked-none want (CellOf steps (length steps) S) marks (λ c (s, i, at, _, _). n s at)
 
   -- rows, and then more rows
-  pub rows-then : (S R U : ℕ → Type 0) {before between marks : List ℕ} → ((s : ℕ) → S s → U s) → ((s : ℕ) → R s → U s) → ((s : ℕ) → U s → S s ⊎ R s)
+  rows-then : (S R U : ℕ → Type 0) {before between marks : List ℕ} → ((s : ℕ) → S s → U s) → ((s : ℕ) → R s → U s) → ((s : ℕ) → U s → S s ⊎ R s)
       → RowsMarked payoffs steps S before between → RowsMarked payoffs steps R between marks → RowsMarked payoffs steps U before marks
   rows-then S R U first second all m n want w =
       let T = CellOf steps (length steps) in
@@ -94,14 +94,14 @@ module _ (payoffs : List Float) (steps : List ℕ) where
     abbrev two : ℕ → Type 0
     two = Spaced start gap 2
 
-    pub pair-none : (want : ℕ → Bool) (marks : List ℕ) → Marked want (CellOf steps 0 two) marks marks
+    pub pair-none : (want : ℕ → Bool) (marks : List ℕ) → BytesMarked want (CellOf steps 0 two) marks marks
     pair-none want marks = marked-none want (CellOf steps 0 two) marks (λ c (s, i, at, l, _). omega (arith, l))
 
     pub pair-more : (want : ℕ → Bool) → Wants payoffs steps two want → {before marks : List ℕ} (n : ℕ) → n < length steps
-        → Marked want (CellOf steps n two) before marks → (v u : ℕ)
+        → BytesMarked want (CellOf steps n two) before marks → (v u : ℕ)
         → v ≡ byteOf (rowTop payoffs steps start n) → u ≡ byteOf (rowTop payoffs steps (start + gap) n)
         → start + getD steps n 0 < length marks → start + getD steps n 0 + gap < length marks
-        → Marked want (CellOf steps (n + 1) two) before (set (set marks (start + getD steps n 0) v) (start + getD steps n 0 + gap) u)
+        → BytesMarked want (CellOf steps (n + 1) two) before (set (set marks (start + getD steps n 0) v) (start + getD steps n 0 + gap) u)
     pair-more want wants {before} {marks} n l m v u e f inside inside′ =
         let c : ℕ = start + getD steps n 0 in
         let d : ℕ = start + getD steps n 0 + gap in
@@ -136,7 +136,7 @@ module _ (payoffs : List Float) (steps : List ℕ) where
 
     -- The i-th and the next one, or the i-th twice, `other` after it.
     module _ (i other : ℕ) (l : i < number) (h : ((i + 1 < number) × (other ≡ gap)) ⊎ ((number ≤ i + 1) × (other ≡ 0))) where
-      pub pair-in : (s : ℕ) → Spaced (start + i * gap) other 2 s → First (i + 2) s
+      pair-in : (s : ℕ) → Spaced (start + i * gap) other 2 s → First (i + 2) s
       pair-in s (r, low, e) =
           ⊎-elim
           (λ (z : r ≡ 1).

@@ -52,7 +52,7 @@ abbrev pub CellOf : List ℕ → ℕ → (ℕ → Type 0) → ℕ → Type 0
 CellOf steps n S c = (s : ℕ) × (i : ℕ) × S s × (i < n) × (c ≡ s + getD steps i 0)
 
 -- the bytes of the cells W say what `want` says, and nothing else changed
-pub record Marked (want : ℕ → Bool) (W : ℕ → Type 0) (before marks : List ℕ) : Type 0 where
+pub record BytesMarked (want : ℕ → Bool) (W : ℕ → Type 0) (before marks : List ℕ) : Type 0 where
   pub long : length marks ≡ length before
   pub on : (c : ℕ) → W c → getD marks c 0 ≡ byteOf (want c)
   pub each : (c : ℕ) → (getD marks c 0 ≡ getD before c 0) ⊎ W c
@@ -63,7 +63,7 @@ Wants payoffs steps S want = (s i : ℕ) → S s → i < length steps → rowTop
 
 -- The rows that begin at S are marked: what they want, where they want the same of the cells that they share.
 abbrev pub RowsMarked : List Float → List ℕ → (ℕ → Type 0) → List ℕ → List ℕ → Type 0
-RowsMarked payoffs steps S before marks = (want : ℕ → Bool) → Wants payoffs steps S want → Marked want (CellOf steps (length steps) S) before marks
+RowsMarked payoffs steps S before marks = (want : ℕ → Bool) → Wants payoffs steps S want → BytesMarked want (CellOf steps (length steps) S) before marks
 
 -- ---- players
 
@@ -84,10 +84,14 @@ pub record PlayerMarked (counts : List ℕ) (payoffs : List Float) (survivors : 
   pub kept : (c : ℕ) → ((k : ℕ) → k < product counts → c ≢ k * length counts + p) → getD marks c 0 ≡ getD before c 0
 
 -- the players from p on are marked, and nothing else changed
-pub record AllMarked (counts : List ℕ) (payoffs : List Float) (survivors : List Bool) (p : ℕ) (before marks : List ℕ) : Type 0 where
+pub record PlayersMarked (counts : List ℕ) (payoffs : List Float) (survivors : List Bool) (p : ℕ) (before marks : List ℕ) : Type 0 where
   pub long : length marks ≡ length before
   pub done : (k q : ℕ) → k < product counts → p ≤ q → q < length counts
       → getD marks (k * length counts + q) 0 ≡ byteOf (settled (tableGame counts payoffs) (marked survivors) (getD (profiles counts) k []) q)
   pub todo : (k q : ℕ) → k < product counts → q < p → q < length counts
       → getD marks (k * length counts + q) 0 ≡ getD before (k * length counts + q) 0
   pub kept : (c : ℕ) → cells counts ≤ c → getD marks c 0 ≡ getD before c 0
+
+-- how many bytes are counted before their number goes to a wider one: the code's RUN
+abbrev pub run : ℕ
+run = 128

@@ -1,6 +1,6 @@
 // All best responses of a table in one sweep: a byte for each cell, 1 where the profile's choice is a best response of that player and 0 where
-// it is not. The sweep is over marks of strategies, and a table is the case where every strategy is marked. Each payoff is read twice, whatever
-// the payoffs are: for the greatest of its row, and to be held against it.
+// it is not. The sweep is over marks of strategies, and a table is the case where every strategy is marked. Each payoff is read twice, for the
+// greatest of its row and to be held against it, and where a row is taken by itself four times, whatever the payoffs are.
 use refusal::NormalFormError;
 use refusal::UsizeResult;
 use table::MAX_MARKS;
@@ -22,7 +22,7 @@ ghost use Rattle.payoff_tables.specs.Meaning.{Finites, Table};
 ghost use Rattle.marks.specs.Marks.{marked};
 ghost use Rattle.response_marks.specs.Marks.{ones, responseMarks};
 ghost use Rattle.response_marks.specs.Answers.{marksAnswer, marksWritten, Counted};
-ghost use Rattle.mark_responses.specs.Sweep.{markedOf, Greatest, Spaced, Nested, Within, RowsMarked, PlayerMarked, Ready};
+ghost use Rattle.mark_responses.specs.Sweep.{markedOf, Greatest, Spaced, Nested, Within, RowsMarked, PlayerMarked, Ready, run};
 
 // ---- rows, two at a time
 
@@ -73,7 +73,7 @@ fn reaches(a: f64, b: f64) -> u8
     best as u8
 }
 
-// The greatest payoffs of two rows.
+// What `greatest` finds.
 struct Tops {
     one: f64,
     other: f64,
@@ -271,9 +271,9 @@ pub fn mark_all(
 // How many bytes are counted before the number goes to a wider one.
 const RUN: usize = 128;
 
-// How many of at most 128 bytes are 1. The number is a byte itself, so that the loop is compiled to vector instructions.
+// How many of at most so many bytes are 1. The number is a byte itself, so that the loop is compiled to vector instructions.
 fn count_run(marks: &[u8]) -> u8
-    requires { ⌜ length (now marks) ≤ 128 ⌝ }
+    requires { ⌜ length (now marks) ≤ run ⌝ }
     ensures { λ r. ⌜ r ≡ ones (now (marks .entry)) ⌝ }
 {
     let mut number: u8 = 0;

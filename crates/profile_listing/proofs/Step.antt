@@ -1,7 +1,7 @@
 -- The choices of a profile from those of the profile before it: from the last player to the first, a step of the players from p on says whether
 -- they have all begun again, and then the player before p goes up. Assumes nothing.
 use mathlib.Core.Path.{_≡_, refl, sym, ap, _∙_}
-use mathlib.Core.Bool.{Bool, true, false, not, cond}
+use mathlib.Core.Bool.{Bool, true, false, not}
 use mathlib.Core.List.{List, [], _∷_, _++_}
 use Prim.Native.Nat.{ℕ, zero, suc, _+_, _-_, _≤_, _<_}
 use native.Mathlib.Nat.{not-suc-le-zero, le-of-suc-le-suc, suc-inj, suc-ne-zero, add-zero}
@@ -27,7 +27,7 @@ tail s x false true p = refl
 tail s x false false p = refl
 
 -- The players from p on step by themselves.
-pub step-drop : (cs x : List ℕ) (p : ℕ) → length x ≡ length cs → p ≤ length cs → drop p (step cs x .profile) ≡ step (drop p cs) (drop p x) .profile
+step-drop : (cs x : List ℕ) (p : ℕ) → length x ≡ length cs → p ≤ length cs → drop p (step cs x .profile) ≡ step (drop p cs) (drop p x) .profile
 step-drop cs x zero e l = refl
 step-drop [] x (suc p) e l = absurd (not-suc-le-zero l)
 step-drop (c ∷ cs) [] (suc p) e l = absurd (suc-ne-zero (length cs) (sym e))

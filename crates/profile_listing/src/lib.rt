@@ -2,18 +2,15 @@
 // order, as far as both outputs hold them whole.
 use refusal::Listed;
 ghost use mathlib.Core.Path.{_≡_};
-ghost use mathlib.Core.Bool.{not};
-ghost use mathlib.Core.List.{[], _++_, map};
-ghost use Prim.Native.Nat.{_+_, _-_, _<_, _≤_};
-ghost use lib.Dec.{eqb};
+ghost use mathlib.Core.List.{[], _++_};
+ghost use Prim.Native.Nat.{_+_, _<_, _≤_};
 ghost use lib.ListN.{length, getD, take, drop};
-ghost use Rattle.game.specs.Finite.{all, below, product};
+ghost use Rattle.game.specs.Finite.{product};
 ghost use Rattle.game.specs.Game.{profiles};
-ghost use Rattle.written_lists.specs.Outputs.{joined, over};
-ghost use Rattle.written_lists.specs.Listing.{listedOf};
 ghost use Rattle.payoff_tables.specs.Table.{profilePart};
 ghost use Rattle.payoff_tables.specs.Meaning.{Shape, Table};
-ghost use Rattle.response_marks.specs.Marks.{markedProfiles};
+ghost use Rattle.equilibria.specs.Answers.{Wrote};
+ghost use Rattle.response_marks.specs.Marks.{noZero, markedProfiles};
 ghost use Rattle.profile_listing.specs.Entry.{Before};
 
 // ---- one entry
@@ -106,7 +103,7 @@ fn put_entry(
 // Whether none of the marks at `number` places from `at` on is 0.
 fn all_marked(marks: &[u8], at: usize, number: usize) -> bool
     requires { ⌜ at + number ≤ length (now marks) ⌝ }
-    ensures { λ r. ⌜ r ≡ all (λ p. not (eqb (getD (now (marks .entry)) (at + p) 0) 0)) (below number) ⌝ }
+    ensures { λ r. ⌜ r ≡ noZero (now (marks .entry)) at number ⌝ }
 {
     let mut p = 0;
     while p < number {
@@ -131,9 +128,7 @@ pub fn list_marked(
 ) -> Listed
     requires { ⌜ Table (now counts) (now payoffs) ⌝ }
     requires { ⌜ (profiles ≡ product (now counts)) × (length (now payoffs) ≤ length (now marks)) ⌝ }
-    ensures { λ r. ⌜ r ≡ listedOf (markedProfiles (now (counts .entry)) (now (marks .entry))) (length (now (counts .entry))) (length (now (choices .entry))) (length (now (utilities .entry))) ⌝ }
-    ensures { λ r. ⌜ now (choices .exit) ≡ over (joined (r .written) (markedProfiles (now (counts .entry)) (now (marks .entry)))) (now (choices .entry)) ⌝ }
-    ensures { λ r. ⌜ now (utilities .exit) ≡ over (joined (r .written) (map (profilePart (now (counts .entry)) (now (payoffs .entry))) (markedProfiles (now (counts .entry)) (now (marks .entry))))) (now (utilities .entry)) ⌝ }
+    ensures { λ r. ⌜ Wrote (now (counts .entry)) (now (payoffs .entry)) (markedProfiles (now (counts .entry)) (now (marks .entry))) (now (choices .entry)) (now (choices .exit)) (now (utilities .entry)) (now (utilities .exit)) r ⌝ }
 {
     let players = counts.len();
     let room = table::lesser(choices.len(), utilities.len());

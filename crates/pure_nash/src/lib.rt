@@ -11,29 +11,30 @@ use table::MAX_CELLS;
 use table::MAX_MARKS;
 use table::MAX_STRATEGIES;
 ghost use mathlib.Core.Path.{_≡_};
-ghost use mathlib.Core.List.{[], map};
+ghost use mathlib.Core.List.{[]};
 ghost use Prim.Native.Nat.{ℕ, _<_, _≤_};
 ghost use lib.ListN.{length, getD};
 ghost use Rattle.game.specs.Finite.{all, below, product};
 ghost use Rattle.game.specs.Game.{profiles};
 ghost use Rattle.game.specs.Solution.{equilibria};
 ghost use Rattle.refusal.specs.Told.{toldBool, toldListing};
-ghost use Rattle.written_lists.specs.Outputs.{joined, over};
-ghost use Rattle.written_lists.specs.Listing.{listedOf};
+ghost use Rattle.written_lists.specs.Outputs.{over};
 ghost use Rattle.payoff_tables.specs.Limits.{maxMarks};
-ghost use Rattle.payoff_tables.specs.Table.{profilePart, stride as strideOf, tableGame};
+ghost use Rattle.payoff_tables.specs.Table.{stride as strideOf, tableGame};
 ghost use Rattle.payoff_tables.specs.Meaning.{Table};
 ghost use Rattle.marks.specs.Marks.{marked};
-ghost use Rattle.equilibria.specs.Answers.{tableEquilibria, isEquilibriumAnswer, equilibriaAnswer, equilibriaChoices, equilibriaUtilities};
+ghost use Rattle.equilibria.specs.Answers.{Wrote, tableEquilibria, isEquilibriumAnswer, equilibriaAnswer, equilibriaChoices, equilibriaUtilities};
 ghost use Rattle.response_marks.specs.Marks.{settled};
 ghost use Rattle.mark_responses.specs.Sweep.{Ready};
+ghost use Rattle.pure_nash.specs.Sizes.{smallCells, middleCells};
 ghost use Rattle.response_marks.specs.Answers.{fromMarksAnswer, fromMarksChoices, fromMarksUtilities};
 
 // ---- all equilibria among marks, by how many cells the table has
 
 // A table of at most so many cells is marked in an array of as many bytes, and any other in one of the most: so a small table clears and holds
-// on the stack hardly more than it needs. Each array is in a function of its own, since a frame holds all arrays of its function; and each
-// function is called by both listings, since the compiler merges one that has a single caller into that, frame and all.
+// on the stack hardly more than it needs. Each array is in a function of its own, since a frame holds all arrays of its function. The compiler
+// merges a function into its caller, frame and all, where it has one caller or is short: so both listings choose for themselves, and the two
+// functions with the larger arrays hand smaller tables on once more, without which the archive's listings had one frame of 65,536 bytes.
 pub const SMALL_CELLS: usize = 64;
 
 pub const MIDDLE_CELLS: usize = 2048;
@@ -56,9 +57,7 @@ fn list_swept(
     requires { ⌜ profiles ≡ product (now counts) ⌝ }
     requires { ⌜ length (now payoffs) ≤ length (now marks) ⌝ }
     requires { ⌜ ((p : ℕ) → p < length (now counts) → Ready (now counts) (now survivors) p (now marks)) ⌝ }
-    ensures { λ r. ⌜ r ≡ listedOf (equilibria (tableGame (now (counts .entry)) (now (payoffs .entry))) (marked (now (survivors .entry)))) (length (now (counts .entry))) (length (now (choices .entry))) (length (now (utilities .entry))) ⌝ }
-    ensures { λ r. ⌜ now (choices .exit) ≡ over (joined (r .written) (equilibria (tableGame (now (counts .entry)) (now (payoffs .entry))) (marked (now (survivors .entry))))) (now (choices .entry)) ⌝ }
-    ensures { λ r. ⌜ now (utilities .exit) ≡ over (joined (r .written) (map (profilePart (now (counts .entry)) (now (payoffs .entry))) (equilibria (tableGame (now (counts .entry)) (now (payoffs .entry))) (marked (now (survivors .entry)))))) (now (utilities .entry)) ⌝ }
+    ensures { λ r. ⌜ Wrote (now (counts .entry)) (now (payoffs .entry)) (equilibria (tableGame (now (counts .entry)) (now (payoffs .entry))) (marked (now (survivors .entry)))) (now (choices .entry)) (now (choices .exit)) (now (utilities .entry)) (now (utilities .exit)) r ⌝ }
 {
     mark_responses::mark_all(counts, payoffs, survivors, profiles, marks);
     profile_listing::list_marked(counts, payoffs, marks, profiles, choices, utilities)
@@ -75,10 +74,8 @@ pub fn small_equilibria(
 ) -> Listed
     requires { ⌜ Table (now counts) (now payoffs) ⌝ }
     requires { ⌜ length (now survivors) ≡ maxMarks ⌝ }
-    requires { ⌜ (profiles ≡ product (now counts)) × (length (now payoffs) ≤ 64) ⌝ }
-    ensures { λ r. ⌜ r ≡ listedOf (equilibria (tableGame (now (counts .entry)) (now (payoffs .entry))) (marked (now (survivors .entry)))) (length (now (counts .entry))) (length (now (choices .entry))) (length (now (utilities .entry))) ⌝ }
-    ensures { λ r. ⌜ now (choices .exit) ≡ over (joined (r .written) (equilibria (tableGame (now (counts .entry)) (now (payoffs .entry))) (marked (now (survivors .entry))))) (now (choices .entry)) ⌝ }
-    ensures { λ r. ⌜ now (utilities .exit) ≡ over (joined (r .written) (map (profilePart (now (counts .entry)) (now (payoffs .entry))) (equilibria (tableGame (now (counts .entry)) (now (payoffs .entry))) (marked (now (survivors .entry)))))) (now (utilities .entry)) ⌝ }
+    requires { ⌜ (profiles ≡ product (now counts)) × (length (now payoffs) ≤ smallCells) ⌝ }
+    ensures { λ r. ⌜ Wrote (now (counts .entry)) (now (payoffs .entry)) (equilibria (tableGame (now (counts .entry)) (now (payoffs .entry))) (marked (now (survivors .entry)))) (now (choices .entry)) (now (choices .exit)) (now (utilities .entry)) (now (utilities .exit)) r ⌝ }
 {
     let mut marks = [0u8; SMALL_CELLS];
     list_swept(
@@ -103,10 +100,8 @@ pub fn middle_equilibria(
 ) -> Listed
     requires { ⌜ Table (now counts) (now payoffs) ⌝ }
     requires { ⌜ length (now survivors) ≡ maxMarks ⌝ }
-    requires { ⌜ (profiles ≡ product (now counts)) × (length (now payoffs) ≤ 2048) ⌝ }
-    ensures { λ r. ⌜ r ≡ listedOf (equilibria (tableGame (now (counts .entry)) (now (payoffs .entry))) (marked (now (survivors .entry)))) (length (now (counts .entry))) (length (now (choices .entry))) (length (now (utilities .entry))) ⌝ }
-    ensures { λ r. ⌜ now (choices .exit) ≡ over (joined (r .written) (equilibria (tableGame (now (counts .entry)) (now (payoffs .entry))) (marked (now (survivors .entry))))) (now (choices .entry)) ⌝ }
-    ensures { λ r. ⌜ now (utilities .exit) ≡ over (joined (r .written) (map (profilePart (now (counts .entry)) (now (payoffs .entry))) (equilibria (tableGame (now (counts .entry)) (now (payoffs .entry))) (marked (now (survivors .entry)))))) (now (utilities .entry)) ⌝ }
+    requires { ⌜ (profiles ≡ product (now counts)) × (length (now payoffs) ≤ middleCells) ⌝ }
+    ensures { λ r. ⌜ Wrote (now (counts .entry)) (now (payoffs .entry)) (equilibria (tableGame (now (counts .entry)) (now (payoffs .entry))) (marked (now (survivors .entry)))) (now (choices .entry)) (now (choices .exit)) (now (utilities .entry)) (now (utilities .exit)) r ⌝ }
 {
     if payoffs.len() <= SMALL_CELLS {
         return small_equilibria(counts, payoffs, survivors, profiles, choices, utilities);
@@ -123,7 +118,7 @@ pub fn middle_equilibria(
     )
 }
 
-// The same for any table.
+// The same for any table. The caller proves the rest.
 pub fn marked_equilibria(
     counts: &[usize],
     payoffs: &[f64],
@@ -135,9 +130,7 @@ pub fn marked_equilibria(
     requires { ⌜ Table (now counts) (now payoffs) ⌝ }
     requires { ⌜ length (now survivors) ≡ maxMarks ⌝ }
     requires { ⌜ profiles ≡ product (now counts) ⌝ }
-    ensures { λ r. ⌜ r ≡ listedOf (equilibria (tableGame (now (counts .entry)) (now (payoffs .entry))) (marked (now (survivors .entry)))) (length (now (counts .entry))) (length (now (choices .entry))) (length (now (utilities .entry))) ⌝ }
-    ensures { λ r. ⌜ now (choices .exit) ≡ over (joined (r .written) (equilibria (tableGame (now (counts .entry)) (now (payoffs .entry))) (marked (now (survivors .entry))))) (now (choices .entry)) ⌝ }
-    ensures { λ r. ⌜ now (utilities .exit) ≡ over (joined (r .written) (map (profilePart (now (counts .entry)) (now (payoffs .entry))) (equilibria (tableGame (now (counts .entry)) (now (payoffs .entry))) (marked (now (survivors .entry)))))) (now (utilities .entry)) ⌝ }
+    ensures { λ r. ⌜ Wrote (now (counts .entry)) (now (payoffs .entry)) (equilibria (tableGame (now (counts .entry)) (now (payoffs .entry))) (marked (now (survivors .entry)))) (now (choices .entry)) (now (choices .exit)) (now (utilities .entry)) (now (utilities .exit)) r ⌝ }
 {
     if payoffs.len() <= SMALL_CELLS {
         return small_equilibria(counts, payoffs, survivors, profiles, choices, utilities);
@@ -231,9 +224,7 @@ fn table_equilibria(
 ) -> Listed
     requires { ⌜ Table (now counts) (now payoffs) ⌝ }
     requires { ⌜ profiles ≡ product (now counts) ⌝ }
-    ensures { λ r. ⌜ r ≡ listedOf (tableEquilibria (now (counts .entry)) (now (payoffs .entry))) (length (now (counts .entry))) (length (now (choices .entry))) (length (now (utilities .entry))) ⌝ }
-    ensures { λ r. ⌜ now (choices .exit) ≡ over (joined (r .written) (tableEquilibria (now (counts .entry)) (now (payoffs .entry)))) (now (choices .entry)) ⌝ }
-    ensures { λ r. ⌜ now (utilities .exit) ≡ over (joined (r .written) (map (profilePart (now (counts .entry)) (now (payoffs .entry))) (tableEquilibria (now (counts .entry)) (now (payoffs .entry))))) (now (utilities .entry)) ⌝ }
+    ensures { λ r. ⌜ Wrote (now (counts .entry)) (now (payoffs .entry)) (tableEquilibria (now (counts .entry)) (now (payoffs .entry))) (now (choices .entry)) (now (choices .exit)) (now (utilities .entry)) (now (utilities .exit)) r ⌝ }
 {
     let survivors = [true; MAX_MARKS];
     if payoffs.len() <= SMALL_CELLS {

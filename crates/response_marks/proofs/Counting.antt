@@ -7,18 +7,18 @@ use native.Mathlib.Nat.{mul-assoc, mul-comm, mul-div-cancel-left}
 use native.Mathlib.Numerals.{add-one}
 use native.Mathlib.Omega.{arith}
 use lib.Dec.{T, eqb}
-use lib.ListN.{length, getD, take, drop, length-append}
+use lib.ListN.{length, getD, take, length-append}
 use lib.Seq.{take-suc, length-take-le}
 use lib.Ieee.{Float}
 use Rattle.game.specs.Finite.{_∈_, below, filter, sum, product}
-use Rattle.game.specs.Game.{Game, players, count, Playable, choice, profiles, Marks, whole}
+use Rattle.game.specs.Game.{Game, players, count, profiles, Marks, whole}
 use Rattle.game.proofs.Finite.{below-mem, filter-append, filter-at-most, map-cong}
 use Rattle.game.proofs.Game.{whole-law}
 use Rattle.payoff_tables.specs.Table.{cells, stride, tableGame}
 use Rattle.payoff_tables.specs.Meaning.{Shape}
 use Rattle.payoff_tables.proofs.Offsets.{product-split, product-drop}
 use Rattle.response_marks.specs.Marks.{settled, profileMarks, responseMarks, ones}
-use Rattle.refusal.specs.Refusal.{Refusal, _then_}
+use Rattle.refusal.specs.Refusal.{_then_}
 use Rattle.refusal.specs.Told.{values, byteOf}
 use Rattle.refusal.proofs.Refusal.{then-none}
 use Rattle.refusal.proofs.Told.{told-values}
@@ -59,11 +59,6 @@ unfolding ones
 ones-joined bs cs = ap length (filter-append one bs cs) ∙ length-append (filter one bs) (filter one cs)
 
 -- ---- how many there are at least
-
--- what is summed for two is the sum of what is summed for each
-sum-both : {A : Type 0} (f h : A → ℕ) (xs : List A) → sum (map (λ a. f a + h a) xs) ≡ sum (map f xs) + sum (map h xs)
-sum-both f h [] = omega arith
-sum-both f h (x ∷ xs) = omega (arith, sum-both f h xs)
 
 sum-at-most : {A : Type 0} (f h : A → ℕ) (xs : List A) → ((a : A) → a ∈ xs → f a ≤ h a) → sum (map f xs) ≤ sum (map h xs)
 sum-at-most f h [] e = omega arith

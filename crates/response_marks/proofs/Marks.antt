@@ -1,7 +1,7 @@
 -- What the marks say: which byte stands at each cell, that it is 1 or 0, and which profiles have no 0 among theirs. Assumes nothing.
 use mathlib.Core.Path.{_≡_, refl, sym, ap, ap₂, _∙_}
-use mathlib.Core.Bool.{Bool, true, false, not, _&&_}
-use mathlib.Core.List.{List, [], _∷_, _++_, map, flatMap, List·Memᴰ·head as here, List·Memᴰ·tail as there}
+use mathlib.Core.Bool.{Bool, true, false, not}
+use mathlib.Core.List.{List, [], _∷_, _++_, flatMap, List·Memᴰ·head as here, List·Memᴰ·tail as there}
 use mathlib.Core.Logic.{_↔_, _⊎_, inl, inr, Iff·trans, Iff·symm}
 use mathlib.Core.Option.{none, some}
 use Prim.Native.Nat.{ℕ, _+_, _*_, _-_, _≤_, _<_}
@@ -9,10 +9,10 @@ use native.Mathlib.Omega.{arith}
 use lib.Arith.{digits-lt}
 use lib.Dec.{T, eqb}
 use borrow.Author.Tests.{lt-ltb, le-ltb}
-use lib.ListN.{length, getD, take, drop, length-map, List·getD-append}
-use lib.Seq.{getD-append-add, getD-drop, take-at}
+use lib.ListN.{length, getD, take, drop, length-map}
+use lib.Seq.{take-at}
 use lib.Ieee.{Float}
-use Rattle.game.specs.Finite.{_∈_, all, below, product}
+use Rattle.game.specs.Finite.{_∈_, below, product}
 use Rattle.game.specs.Game.{Game, players, choice, Profile, profiles, Marks}
 use Rattle.game.specs.Solution.{bestResponse, equilibrium, equilibria}
 use Rattle.game.specs.Meaning.{Best}
@@ -25,7 +25,9 @@ use Rattle.refusal.specs.Told.{values, refused, byteOf}
 use Rattle.refusal.specs.declared.NormalFormError.{NormalFormError}
 use Rattle.refusal.specs.declared.NormalFormError.the-variants.{OutputTooShort}
 use Rattle.refusal.proofs.Told.{byte-back}
+use Rattle.payoff_order.proofs.All.{all-cong}
 use Rattle.written_lists.specs.Outputs.{over}
+use Rattle.written_lists.proofs.Outputs.{over-first}
 use Rattle.payoff_tables.specs.Table.{cells, offset, cell, tableGame}
 use Rattle.payoff_tables.specs.Checks.{tableRefusal}
 use Rattle.payoff_tables.proofs.Offsets.{getD-map, getD-flatMap, getD-below, offset-below, nth-offset}
@@ -62,26 +64,20 @@ module _ (g : Game) (m : Marks) where
       ∙ getD-map (λ p. byteOf (settled g m (getD (profiles (g .counts)) k []) p)) (below (players g)) p 0 0 (rw length-below l)
       ∙ ap (λ (n : ℕ). byteOf (settled g m (getD (profiles (g .counts)) k []) n)) (getD-below (players g) p l)
 
-  -- It is 1 where the choice is a best response, in quantifiers, and else 0.
-  pub mark-one : (x : List ℕ) (p : ℕ) → (byteOf (settled g m x p) ≡ 1) ↔ Best g m p x (choice x p)
-  unfolding settled
-  mark-one x p = Iff·trans (one-T (bestResponse g m p x (choice x p))) (bestResponse-law g m p x (choice x p))
+  module _ (k p : ℕ) (h : k < product (g .counts)) (l : p < players g) where
+    abbrev x : List ℕ
+    x = getD (profiles (g .counts)) k []
 
-  pub mark-or-zero : (k p : ℕ) → k < product (g .counts) → p < players g
-      → (getD (responseMarks g m) (k * players g + p) 0 ≡ 1) ⊎ (getD (responseMarks g m) (k * players g + p) 0 ≡ 0)
-  mark-or-zero k p h l = rw (marks-at k p h l) (either-byte (settled g m (getD (profiles (g .counts)) k []) p))
+    -- It is 1 where that is so, in quantifiers,
+    pub mark-one : (getD (responseMarks g m) (k * players g + p) 0 ≡ 1) ↔ Best g m p x (choice x p)
+    unfolding settled
+    mark-one = rw (marks-at k p h l) (Iff·trans (one-T (bestResponse g m p x (choice x p))) (bestResponse-law g m p x (choice x p)))
+
+    -- and else 0.
+    pub mark-or-zero : (getD (responseMarks g m) (k * players g + p) 0 ≡ 1) ⊎ (getD (responseMarks g m) (k * players g + p) 0 ≡ 0)
+    mark-or-zero = rw (marks-at k p h l) (either-byte (settled g m x p))
 
 -- ---- the marks over what stood there
-
-module _ {A : Type 0} (xs old : List A) (i : ℕ) (d : A) where
-  pub over-first : i < length xs → getD (over xs old) i d ≡ getD xs i d
-  over-first h = List·getD-append xs (drop (length xs) old) d i h
-
-  pub over-rest : length xs ≤ i → getD (over xs old) i d ≡ getD old i d
-  over-rest h =
-      let n : i ≡ length xs + (i - length xs) = omega arith in
-      ap (λ (k : ℕ). getD (over xs old) k d) n ∙ getD-append-add xs (drop (length xs) old) (i - length xs) d
-      ∙ getD-drop (length xs) old (i - length xs) d ∙ ap (λ (k : ℕ). getD old k d) (sym n)
 
 module _ (counts : List ℕ) (payoffs : List Float) (m : Marks) (old : List ℕ) where
   pub marks-over : (k p : ℕ) → k < product counts → p < length counts
@@ -104,10 +100,6 @@ marked-law counts marks x =
       λ (r, h). (profiles-law counts .members x .1 r, h),
     ))
 
-all-same : {A : Type 0} (f h : A → Bool) (xs : List A) → ((a : A) → a ∈ xs → f a ≡ h a) → all f xs ≡ all h xs
-all-same f h [] e = refl
-all-same f h (x ∷ xs) e = ap₂ _&&_ (e x (here refl)) (all-same f h xs (λ a k. e a (there k)))
-
 -- By the marks that the sweep writes, whatever stands past them, they are the equilibria.
 pub marks-listed : (counts : List ℕ) (payoffs : List Float) (m : Marks) (old : List ℕ)
     → markedProfiles counts (over (responseMarks (tableGame counts payoffs) m) old) ≡ equilibria (tableGame counts payoffs) m
@@ -117,7 +109,7 @@ marks-listed counts payoffs m old =
     let marks : List ℕ = over (responseMarks g m) old in
     filter-cong (allMarked counts marks) (equilibrium g m) (profiles counts) (λ x i.
     let r : Profile counts x = profiles-law counts .members x .0 i in
-    all-same (λ p. not (eqb (getD marks (cell counts x p) 0) 0)) (λ p. bestResponse g m p x (choice x p)) (below (length counts)) (λ p k.
+    all-cong (λ p. not (eqb (getD marks (cell counts x p) 0) 0)) (λ p. bestResponse g m p x (choice x p)) (below (length counts)) (λ p k.
     ap (λ (n : ℕ). not (eqb n 0)) (marks-over counts payoffs m old (offset counts x) p (offset-below r) (below-mem (length counts) p .0 k))
     ∙ byte-back (settled g m (getD (profiles counts) (offset counts x) []) p) ∙ ap (λ (y : List ℕ). bestResponse g m p y (choice y p)) (nth-offset r))
     ∙ sym (equilibrium-each g m x r))
@@ -146,9 +138,9 @@ marks-same g m n same =
 
 module _ (counts : List ℕ) (payoffs : List Float) (n : ℕ) where
   -- the table is refused,
-  pub marks-none : (e : NormalFormError) → tableRefusal counts payoffs ≡ some e → marksRefusal counts payoffs n ≡ some e
+  pub marks-table : (e : NormalFormError) → tableRefusal counts payoffs ≡ some e → marksRefusal counts payoffs n ≡ some e
   unfolding marksRefusal
-  marks-none e h = rw h refl
+  marks-table e h = rw h refl
 
   module _ (h : tableRefusal counts payoffs ≡ none) where
     -- there are too few bytes,

@@ -1,4 +1,4 @@
--- Document 02, N3: what `best_response_marks` and `marked_profiles` answer and write. Assumes nothing.
+-- Change N3 of the scope: what `best_response_marks` and `marked_profiles` answer and write. Assumes nothing.
 use mathlib.Core.Path.{_≡_}
 use mathlib.Core.List.{List, map}
 use Prim.Native.Nat.{ℕ, _/_, _≤_}

@@ -1,15 +1,15 @@
--- Document 02, N3: a mark for each cell, whether the profile's choice is a best response of that player. A mark is a byte, 1 or 0, and
+-- Change N3 of the scope: a mark for each cell, whether the profile's choice is a best response of that player. A mark is a byte, 1 or 0, and
 -- stands where the cell does. Assumes nothing.
 use mathlib.Core.Bool.{Bool, not}
 use mathlib.Core.List.{List, map, flatMap}
-use Prim.Native.Nat.{ℕ}
+use Prim.Native.Nat.{ℕ, _+_, _*_}
 use lib.Dec.{eqb}
 use lib.ListN.{length, getD}
 use Rattle.game.specs.Finite.{all, below, filter}
 use Rattle.game.specs.Game.{Game, players, choice, profiles, Marks}
 use Rattle.game.specs.Solution.{bestResponse}
 use Rattle.refusal.specs.Told.{byteOf}
-use Rattle.payoff_tables.specs.Table.{cell}
+use Rattle.payoff_tables.specs.Table.{offset}
 
 module _ (g : Game) (m : Marks) where
   -- player p's choice in x is a best response to the others'
@@ -30,9 +30,13 @@ ones bs = length (filter (λ b. eqb b 1) bs)
 
 -- ---- profiles by their marks
 
--- none of the P marks of the profile x is 0
+-- none of the n marks from `at` on is 0
+abbrev pub noZero : List ℕ → ℕ → ℕ → Bool
+noZero marks at n = all (λ i. not (eqb (getD marks (at + i) 0) 0)) (below n)
+
+-- none of the P marks of the profile x is 0: they stand where its cells do
 abbrev pub allMarked : List ℕ → List ℕ → List ℕ → Bool
-allMarked counts marks x = all (λ p. not (eqb (getD marks (cell counts x p) 0) 0)) (below (length counts))
+allMarked counts marks x = noZero marks (offset counts x * length counts) (length counts)
 
 -- the profiles of which none of the marks is 0, in profile order
 unfoldable pub markedProfiles : List ℕ → List ℕ → List (List ℕ)

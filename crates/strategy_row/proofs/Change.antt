@@ -13,7 +13,7 @@ use Rattle.game.specs.Game.{choice, profiles}
 use Rattle.game.specs.Solution.{bestResponse}
 use Rattle.game.proofs.Game.{set-profile}
 use Rattle.payoff_tables.specs.Limits.{maxStrategies}
-use Rattle.payoff_tables.specs.Table.{cells, offset, stride, cell, tableGame}
+use Rattle.payoff_tables.specs.Table.{cells, stride, cell, tableGame}
 use Rattle.payoff_tables.specs.Meaning.{Shape}
 use Rattle.payoff_tables.proofs.Offsets.{cell-below, nth-profile, offset-nth, nth-choice}
 use Rattle.payoff_tables.proofs.Walk.{row-cell, row-start}

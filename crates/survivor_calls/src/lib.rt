@@ -10,7 +10,6 @@ use refusal::UsizeResult;
 use survivors::Survivors;
 use table::MAX_STRATEGIES;
 ghost use mathlib.Core.Path.{_≡_};
-ghost use mathlib.Core.List.{map};
 ghost use lib.ListN.{length};
 ghost use Rattle.game.specs.Finite.{product};
 ghost use Rattle.game.specs.Game.{strategy as named};
@@ -18,12 +17,12 @@ ghost use Rattle.game.specs.Solution.{equilibria};
 ghost use Rattle.game.specs.Strikes.{answer};
 ghost use Rattle.refusal.specs.Refusal.{numberOf};
 ghost use Rattle.refusal.specs.Told.{refused, toldUsize, toldListing};
-ghost use Rattle.written_lists.specs.Outputs.{joined, over};
-ghost use Rattle.written_lists.specs.Listing.{listedOf};
+ghost use Rattle.written_lists.specs.Outputs.{over};
 ghost use Rattle.payoff_tables.specs.Limits.{maxMarks};
-ghost use Rattle.payoff_tables.specs.Table.{profilePart, tableGame};
+ghost use Rattle.payoff_tables.specs.Table.{tableGame};
 ghost use Rattle.payoff_tables.specs.Meaning.{Table};
 ghost use Rattle.marks.specs.Marks.{marked};
+ghost use Rattle.equilibria.specs.Answers.{Wrote};
 ghost use Rattle.survivors.specs.Survivors.{marksOf};
 ghost use Rattle.strikes.specs.Answers.{toldAnswer, handedBack, strikeAnswer, strikeLeaves, survivingAnswer, survivingChoices, survivingUtilities};
 
@@ -115,7 +114,7 @@ pub fn strike(
 
 // How many equilibria there are among the marks, and how many of them are written, by how many cells the table has. The caller proves that the
 // table has none of refusals 1 to 7 and `profiles` profiles, and that there are as many marks as there may be.
-fn list_survivors(
+fn list_surviving(
     counts: &[usize],
     payoffs: &[f64],
     marks: &[bool],
@@ -126,9 +125,7 @@ fn list_survivors(
     requires { ⌜ Table (now counts) (now payoffs) ⌝ }
     requires { ⌜ length (now marks) ≡ maxMarks ⌝ }
     requires { ⌜ profiles ≡ product (now counts) ⌝ }
-    ensures { λ r. ⌜ r ≡ listedOf (equilibria (tableGame (now (counts .entry)) (now (payoffs .entry))) (marked (now (marks .entry)))) (length (now (counts .entry))) (length (now (choices .entry))) (length (now (utilities .entry))) ⌝ }
-    ensures { λ r. ⌜ now (choices .exit) ≡ over (joined (r .written) (equilibria (tableGame (now (counts .entry)) (now (payoffs .entry))) (marked (now (marks .entry))))) (now (choices .entry)) ⌝ }
-    ensures { λ r. ⌜ now (utilities .exit) ≡ over (joined (r .written) (map (profilePart (now (counts .entry)) (now (payoffs .entry))) (equilibria (tableGame (now (counts .entry)) (now (payoffs .entry))) (marked (now (marks .entry)))))) (now (utilities .entry)) ⌝ }
+    ensures { λ r. ⌜ Wrote (now (counts .entry)) (now (payoffs .entry)) (equilibria (tableGame (now (counts .entry)) (now (payoffs .entry))) (marked (now (marks .entry)))) (now (choices .entry)) (now (choices .exit)) (now (utilities .entry)) (now (utilities .exit)) r ⌝ }
 {
     if payoffs.len() <= SMALL_CELLS {
         return pure_nash::small_equilibria(counts, payoffs, marks, profiles, choices, utilities);
@@ -161,7 +158,7 @@ pub fn surviving_equilibria(
                 return ListingResult::Err(NormalFormError::ForeignSurvivors);
             }
             let marks = survivors.marks;
-            ListingResult::Ok(list_survivors(counts, payoffs, &marks, profiles, choices, utilities))
+            ListingResult::Ok(list_surviving(counts, payoffs, &marks, profiles, choices, utilities))
         }
     }
 }

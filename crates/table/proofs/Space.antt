@@ -25,7 +25,8 @@ past [] p h = refl
 past (c ∷ cs) zero h = absurd (omega arith)
 past (c ∷ cs) (suc p) h = past cs p (le-of-suc-le-suc h)
 
-zeros : (n p : ℕ) → getD (replicate {A = ℕ} n 0) p 0 ≡ 0
+-- a list of zeros has 0 everywhere
+pub zeros : (n p : ℕ) → getD (replicate {A = ℕ} n 0) p 0 ≡ 0
 zeros zero p = refl
 zeros (suc n) zero = refl
 zeros (suc n) (suc p) = zeros n p

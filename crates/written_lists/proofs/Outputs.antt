@@ -4,13 +4,13 @@ use mathlib.Core.Path.{_≡_, refl, sym, ap, ap₂, _∙_}
 use mathlib.Core.Bool.{Bool}
 use mathlib.Core.List.{List, [], _∷_, _++_, map, flatMap}
 use mathlib.Core.Option.{none, some}
-use Prim.Native.Nat.{ℕ, zero, suc, _+_, _≤_, _<_}
+use Prim.Native.Nat.{ℕ, zero, suc, _+_, _-_, _≤_, _<_}
 use native.Mathlib.Numerals.{add-one}
 use native.Mathlib.Omega.{arith}
 use borrow.Author.Tests.{lt-ltb, le-ltb}
 use lib.Dec.{ltb}
-use lib.ListN.{length, getD, set, take, drop, length-append, length-drop}
-use lib.Seq.{drop-cons, set-append-seam, append-snoc, take-suc, length-take-le}
+use lib.ListN.{length, getD, set, take, drop, length-append, length-drop, List·getD-append}
+use lib.Seq.{drop-cons, set-append-seam, append-snoc, take-suc, length-take-le, getD-append-add, getD-drop}
 use Rattle.refusal.specs.Refusal.{when, _then_}
 use Rattle.refusal.specs.Told.{Told, refused}
 use Rattle.refusal.specs.declared.NormalFormError.the-variants.{OutputTooShort}
@@ -34,6 +34,17 @@ module _ {A : Type 0} where
       let n : length (take i from) ≡ i = length-take-le i from (omega arith) in
       rw (add-one i, take-suc from i d h)
       (ap (λ j. set (over (take i from) old) j (getD from i d)) (sym n) ∙ over-more (take i from) old (getD from i d) (omega arith))
+
+-- what stands where, after that: the list, and then what stood there
+module _ {A : Type 0} (xs old : List A) (i : ℕ) (d : A) where
+  pub over-first : i < length xs → getD (over xs old) i d ≡ getD xs i d
+  over-first h = List·getD-append xs (drop (length xs) old) d i h
+
+  pub over-rest : length xs ≤ i → getD (over xs old) i d ≡ getD old i d
+  over-rest h =
+      let n : i ≡ length xs + (i - length xs) = omega arith in
+      ap (λ (k : ℕ). getD (over xs old) k d) n ∙ getD-append-add xs (drop (length xs) old) (i - length xs) d
+      ∙ getD-drop (length xs) old (i - length xs) d ∙ ap (λ (k : ℕ). getD old k d) (sym n)
 
 -- The parts of each entry, one after the other.
 pub flat-map : {A B : Type 0} (f : B → List A) (xs : List B) → flatMap (λ x. x) (map f xs) ≡ flatMap f xs

@@ -2,8 +2,7 @@
 use mathlib.Core.Path.{_≡_, refl, sym, ap, _∙_}
 use mathlib.Core.Bool.{true}
 use mathlib.Core.List.{List}
-use Prim.Native.Nat.{ℕ, _≤_}
-use native.Mathlib.Omega.{arith}
+use Prim.Native.Nat.{ℕ}
 use borrow.Author.Needs.{needs}
 use lib.ListN.{length, take, replicate}
 use lib.Ieee.{Float}
@@ -20,7 +19,7 @@ use Rattle.payoff_tables.proofs.Table.{TableTold, table-told}
 use Rattle.marks.proofs.Marks.{marks-whole}
 use Rattle.response_marks.specs.Marks.{responseMarks, ones}
 use Rattle.response_marks.specs.Answers.{tableMarks, marksAnswer, marksWritten, Counted}
-use Rattle.response_marks.proofs.Marks.{marks-same, marks-none, marks-few, marks-enough, marks-refused, marks-fit, take-marks}
+use Rattle.response_marks.proofs.Marks.{marks-same, marks-table, marks-few, marks-enough, marks-refused, marks-fit, take-marks}
 use Rattle.response_marks.proofs.Counting.{marks-counted}
 use Rattle.mark_responses.proofs.Players.{whole-ready}
 use Rattle.mark_responses.proofs.best_response_marks.Statement.{statement}
@@ -77,7 +76,7 @@ returns-2 c =
     let a = k .before .before .before .before .before .before .args in
     let (e, is, number) = told-refused (tableRefusal (a .counts .now) (a .payoffs .now)) _ _ (sym (ap toldUsize (k .e .given .1)) ∙ k .before .before .table-profile-count .ensures) in
     let n = length (a .marks .now) in
-    let r = marks-refused (a .counts .now) (a .payoffs .now) n e (marks-none (a .counts .now) (a .payoffs .now) n e is) in
+    let r = marks-refused (a .counts .now) (a .payoffs .now) n e (marks-table (a .counts .now) (a .payoffs .now) n e is) in
     with-number (a .counts .now) (a .payoffs .now) (a .marks .now) _ _ (ap (λ (n : ℕ). refused n) number ∙ r .0) (sym (ap (λ (xs : List ℕ). over xs (a .marks .now)) (r .1)))
 
 same-length : tie.Need-same-length

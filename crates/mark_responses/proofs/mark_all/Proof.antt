@@ -1,7 +1,7 @@
 -- `mark_responses::mark_all` meets its contract: down from the last player, stride is the product of the counts from p on, the players from p on
 -- are marked, and those before are as they were. Assumes nothing.
 use mathlib.Core.Path.{_≡_, refl, sym, ap, _∙_, subst}
-use Prim.Native.Nat.{ℕ, _+_, _*_, _-_, _≤_}
+use Prim.Native.Nat.{ℕ, _+_, _-_, _≤_}
 use native.Mathlib.Nat.{le-refl}
 use native.Mathlib.Omega.{arith}
 use borrow.Author.Needs.{needs}
@@ -10,14 +10,14 @@ use lib.Seq.{drop-length}
 use Rattle.game.specs.Finite.{product}
 use Rattle.payoff_tables.specs.Limits.{maxStrategies}
 use Rattle.payoff_tables.proofs.Walk.{Down, down}
-use Rattle.mark_responses.specs.Sweep.{AllMarked}
+use Rattle.mark_responses.specs.Sweep.{PlayersMarked}
 use Rattle.mark_responses.proofs.Players.{all-none, still-ready, all-more, all-end}
 use Rattle.mark_responses.proofs.mark_all.Statement.{statement}
 use Rattle.mark_responses.proofs.mark_all.Tie as tie
 
 abbrev Inv-loop : tie.InvT-loop
 Inv-loop counts payoffs survivors profiles marks₀ steps₀ stride₀ p₀ marks steps stride p =
-    (p ≤ length counts) × (stride ≡ product (drop p counts)) × (length steps ≡ maxStrategies) × AllMarked counts payoffs survivors p marks₀ marks
+    (p ≤ length counts) × (stride ≡ product (drop p counts)) × (length steps ≡ maxStrategies) × PlayersMarked counts payoffs survivors p marks₀ marks
 
 abbrev μ-loop : tie.MeasureT-loop
 μ-loop counts payoffs survivors profiles marks₀ steps₀ stride₀ p₀ marks steps stride p = p
@@ -34,12 +34,12 @@ turn c =
 
 -- the players after it are marked
 marked-after : (c : tie.In-loop Inv-loop μ-loop) → let a = start c .args in
-    let l = c .before .loop in AllMarked (a .counts .now) (a .payoffs .now) (a .survivors .now) (l .p - 1 + 1) (a .marks .now) (l .marks)
+    let l = c .before .loop in PlayersMarked (a .counts .now) (a .payoffs .now) (a .survivors .now) (l .p - 1 + 1) (a .marks .now) (l .marks)
 marked-after c =
     let a = start c .args in
     let l = c .before .loop in
     let e : l .p ≡ l .p - 1 + 1 = omega (arith, c .loop-test .taken) in
-    subst (λ (n : ℕ). AllMarked (a .counts .now) (a .payoffs .now) (a .survivors .now) n (a .marks .now) (l .marks)) e (l .inv .3)
+    subst (λ (n : ℕ). PlayersMarked (a .counts .now) (a .payoffs .now) (a .survivors .now) n (a .marks .now) (l .marks)) e (l .inv .3)
 
 loop-holds : tie.Need-loop-holds Inv-loop μ-loop
 loop-holds c =
@@ -109,7 +109,7 @@ returns c =
     let l = c .before .loop in
     let done : l .p ≡ 0 = omega arith in
     all-end (a .counts .now) (a .payoffs .now) (a .survivors .now) (a .marks .now) (l .marks) (rw (← s .pre .0 .full) (s .pre .1 .1 .1 .0))
-    (subst (λ (n : ℕ). AllMarked (a .counts .now) (a .payoffs .now) (a .survivors .now) n (a .marks .now) (l .marks)) done (l .inv .3))
+    (subst (λ (n : ℕ). PlayersMarked (a .counts .now) (a .payoffs .now) (a .survivors .now) n (a .marks .now) (l .marks)) done (l .inv .3))
 
 pub mark-all-spec : {M : Type 1} → statement M
 mark-all-spec =

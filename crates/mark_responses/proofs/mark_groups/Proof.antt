@@ -3,7 +3,7 @@ use mathlib.Core.Path.{_≡_, refl, _∙_}
 use Prim.Native.Nat.{ℕ, _+_, _*_, _-_, _<_, _≤_}
 use native.Mathlib.Omega.{arith}
 use borrow.Author.Needs.{needs}
-use lib.ListN.{length, getD}
+use lib.ListN.{length}
 use Rattle.mark_responses.specs.Sweep.{Nested, RowsMarked}
 use Rattle.mark_responses.proofs.Rows.{rows-none, nested-more}
 use Rattle.mark_responses.proofs.mark_groups.Statement.{statement}

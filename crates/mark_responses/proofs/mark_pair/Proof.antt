@@ -2,14 +2,13 @@
 -- exceed is one that no cell of its row exceeds. Assumes nothing.
 use mathlib.Core.Path.{_≡_, refl, ap, _∙_, subst}
 use mathlib.Core.Bool.{Bool, not}
-use mathlib.Core.List.{List}
 use Prim.Native.Nat.{ℕ, _+_, _-_, _<_, _≤_}
 use native.Mathlib.Omega.{arith}
 use lib.ListN.{length, getD, set, length-set}
-use lib.Ieee.{Float, nan}
+use lib.Ieee.{nan}
 use Rattle.refusal.specs.Told.{byteOf}
 use Rattle.payoff_order.specs.Order.{greater as above}
-use Rattle.mark_responses.specs.Sweep.{Spaced, CellOf, Marked, Wants}
+use Rattle.mark_responses.specs.Sweep.{Spaced, CellOf, BytesMarked, Wants}
 use Rattle.mark_responses.proofs.Row.{greatest-finite, greatest-top}
 use Rattle.mark_responses.proofs.Rows.{pair-within, pair-none, pair-more}
 use Rattle.mark_responses.proofs.mark_pair.Statement.{statement}
@@ -19,7 +18,7 @@ abbrev Inv-loop : tie.InvT-loop
 Inv-loop payoffs steps start gap marks₀ one other i₀ marks i =
     (i ≤ length steps)
     × (length marks ≡ length marks₀)
-    × ((want : ℕ → Bool) → Wants payoffs steps (Spaced start gap 2) want → Marked want (CellOf steps i (Spaced start gap 2)) marks₀ marks)
+    × ((want : ℕ → Bool) → Wants payoffs steps (Spaced start gap 2) want → BytesMarked want (CellOf steps i (Spaced start gap 2)) marks₀ marks)
 
 abbrev μ-loop : tie.MeasureT-loop
 μ-loop payoffs steps start gap marks₀ one other i₀ marks i = length steps - i
@@ -143,7 +142,7 @@ returns c =
     let l = c .before .loop in
     let a = c .before .before .before .before .before .before .args in
     let done : l .i ≡ length (a .steps .now) = omega arith in
-    λ want wants. subst (λ (n : ℕ). Marked want (CellOf (a .steps .now) n (Spaced (a .start) (a .gap) 2)) (a .marks .now) (l .marks)) done (l .inv .2 want wants)
+    λ want wants. subst (λ (n : ℕ). BytesMarked want (CellOf (a .steps .now) n (Spaced (a .start) (a .gap) 2)) (a .marks .now) (l .marks)) done (l .inv .2 want wants)
 
 pub mark-pair-spec : {M : Type 1} → statement M
 mark-pair-spec =

@@ -1,11 +1,11 @@
 -- `mark_responses::mark_rows` meets its contract: the rows before the i-th are marked. Assumes nothing.
-use mathlib.Core.Path.{_≡_, refl, sym, ap, _∙_}
+use mathlib.Core.Path.{_≡_, refl, _∙_}
 use mathlib.Core.Logic.{_⊎_, inl, inr, ⊎-elim}
-use Prim.Native.Nat.{ℕ, _+_, _*_, _-_, _<_, _≤_}
+use Prim.Native.Nat.{_+_, _*_, _-_, _<_, _≤_}
 use native.Mathlib.Omega.{arith}
 use borrow.Author.Needs.{needs}
-use lib.ListN.{length, getD}
-use Rattle.mark_responses.specs.Sweep.{Spaced, RowsMarked}
+use lib.ListN.{length}
+use Rattle.mark_responses.specs.Sweep.{RowsMarked}
 use Rattle.mark_responses.proofs.Rows.{rows-none, First, next-within, first-more, first-all}
 use Rattle.mark_responses.proofs.mark_rows.Statement.{statement}
 use Rattle.mark_responses.proofs.mark_rows.Tie as tie

@@ -21,7 +21,7 @@ use Rattle.written_lists.specs.Listing.{entriesHeld, listedOf}
 use Rattle.written_lists.proofs.Outputs.{joined-map}
 use Rattle.written_lists.proofs.Listing.{listed-is, held-law, take-written}
 use Rattle.payoff_tables.specs.Limits.{maxCells}
-use Rattle.payoff_tables.specs.Table.{offset, profilePart}
+use Rattle.payoff_tables.specs.Table.{profilePart}
 use Rattle.payoff_tables.proofs.Offsets.{nth-profile, offset-nth}
 use Rattle.payoff_tables.proofs.Table.{part-length}
 use Rattle.payoff_tables.proofs.Walk.{shape-room}

@@ -31,7 +31,7 @@ use Rattle.pure_nash.proofs.is_equilibrium.Statement.{statement}
 use Rattle.pure_nash.proofs.is_equilibrium.Tie as tie
 
 -- the arm where the offset is told
-pub record Checked (counts : List ℕ) (payoffs : List Float) (x : List ℕ) (k : ℕ) : Type 0 where
+record Checked (counts : List ℕ) (payoffs : List Float) (x : List ℕ) (k : ℕ) : Type 0 where
   pub none-applies : (tableRefusal counts payoffs then profileRefusal counts x) ≡ none
   pub table : Table counts payoffs
   pub profile : Profile counts x

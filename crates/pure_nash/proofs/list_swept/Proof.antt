@@ -1,11 +1,11 @@
 -- `pure_nash::list_swept` meets its contract: the profiles that have no 0 among the marks of best responses are the equilibria. Assumes nothing.
 use mathlib.Core.Path.{_≡_, ap, _∙_, subst}
 use mathlib.Core.List.{List}
-use Prim.Native.Nat.{ℕ, _≤_}
+use Prim.Native.Nat.{ℕ}
 use native.Mathlib.Omega.{arith}
 use lib.ListN.{length}
 use Rattle.marks.specs.Marks.{marked}
-use Rattle.equilibria.proofs.Listing.{Wrote}
+use Rattle.equilibria.specs.Answers.{Wrote}
 use Rattle.response_marks.specs.Marks.{markedProfiles}
 use Rattle.response_marks.proofs.Marks.{marks-listed}
 use borrow.Author.Needs.{needs}

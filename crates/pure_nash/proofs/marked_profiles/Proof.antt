@@ -13,7 +13,7 @@ use Rattle.payoff_tables.proofs.Table.{TableTold, table-told}
 use Rattle.equilibria.proofs.Listing.{listing-told, listing-refused}
 use Rattle.response_marks.specs.Marks.{markedProfiles}
 use Rattle.response_marks.specs.Answers.{marksRefusal}
-use Rattle.response_marks.proofs.Marks.{marks-none, marks-few, marks-enough}
+use Rattle.response_marks.proofs.Marks.{marks-table, marks-few, marks-enough}
 use borrow.Author.Needs.{needs}
 use Rattle.pure_nash.proofs.marked_profiles.Statement.{statement}
 use Rattle.pure_nash.proofs.marked_profiles.Tie as tie
@@ -64,7 +64,7 @@ returns-2 c =
     let s = start (k .before .before) in
     let a = s .args in
     let (e, is, number) = told-refused (tableRefusal (a .counts .now) (a .payoffs .now)) _ _ (sym (ap toldUsize (k .e .given .1)) ∙ k .before .before .table-profile-count .ensures) in
-    rw number (listing-refused (a .counts .now) (a .payoffs .now) (listed s) (a .choices .now) (a .utilities .now) (refuses s) e (marks-none (a .counts .now) (a .payoffs .now) (length (a .marks .now)) e is))
+    rw number (listing-refused (a .counts .now) (a .payoffs .now) (listed s) (a .choices .now) (a .utilities .now) (refuses s) e (marks-table (a .counts .now) (a .payoffs .now) (length (a .marks .now)) e is))
 
 same-length : tie.Need-same-length
 same-length c = search needs

@@ -3,6 +3,7 @@
 use Prim.Native.Nat.{ℕ}
 use lib.ListN.{length-replicate}
 use Rattle.mark_responses.proofs.Players.{clear-ready}
+use Rattle.pure_nash.specs.Sizes.{middleCells}
 use borrow.Author.Needs.{needs}
 use Rattle.pure_nash.proofs.middle_equilibria.Statement.{statement}
 use Rattle.pure_nash.proofs.middle_equilibria.Tie as tie
@@ -29,7 +30,7 @@ list-swept-requires : tie.Need-list-swept-requires
 list-swept-requires c κs =
     let s = c .before .before .before .before .before .before .before .before .before in
     let a = s .args in
-    (s .pre .0, (s .pre .1 .0, (s .pre .1 .1 .0, (rw (length-replicate {A = ℕ} 2048 0) (s .pre .1 .1 .1), λ p l. clear-ready (a .counts .now) (a .survivors .now) 2048 p))))
+    (s .pre .0, (s .pre .1 .0, (s .pre .1 .1 .0, (rw (length-replicate {A = ℕ} middleCells 0) (s .pre .1 .1 .1), λ p l. clear-ready (a .counts .now) (a .survivors .now) middleCells p))))
 
 same-length-3 : tie.Need-same-length-3
 same-length-3 c = search needs

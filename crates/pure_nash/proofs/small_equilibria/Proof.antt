@@ -2,6 +2,7 @@
 use Prim.Native.Nat.{ℕ}
 use lib.ListN.{length-replicate}
 use Rattle.mark_responses.proofs.Players.{clear-ready}
+use Rattle.pure_nash.specs.Sizes.{smallCells}
 use borrow.Author.Needs.{needs}
 use Rattle.pure_nash.proofs.small_equilibria.Statement.{statement}
 use Rattle.pure_nash.proofs.small_equilibria.Tie as tie
@@ -13,7 +14,7 @@ list-swept-requires : tie.Need-list-swept-requires
 list-swept-requires c κs =
     let s = c .before .before .before .before .before .before .before .before in
     let a = s .args in
-    (s .pre .0, (s .pre .1 .0, (s .pre .1 .1 .0, (rw (length-replicate {A = ℕ} 64 0) (s .pre .1 .1 .1), λ p l. clear-ready (a .counts .now) (a .survivors .now) 64 p))))
+    (s .pre .0, (s .pre .1 .0, (s .pre .1 .1 .0, (rw (length-replicate {A = ℕ} smallCells 0) (s .pre .1 .1 .1), λ p l. clear-ready (a .counts .now) (a .survivors .now) smallCells p))))
 
 same-length : tie.Need-same-length
 same-length c = search needs

@@ -10,8 +10,7 @@ use Rattle.refusal.specs.declared.Listed.{Listed}
 use Rattle.payoff_tables.specs.Limits.{maxMarks}
 use Rattle.payoff_tables.specs.Table.{tableGame}
 use Rattle.marks.specs.Marks.{marked}
-use Rattle.equilibria.specs.Answers.{tableEquilibria}
-use Rattle.equilibria.proofs.Listing.{Wrote}
+use Rattle.equilibria.specs.Answers.{Wrote, tableEquilibria}
 use Rattle.equilibria.proofs.Laws.{whole-equilibria}
 use borrow.Author.Needs.{needs}
 use Rattle.pure_nash.proofs.table_equilibria.Statement.{statement}

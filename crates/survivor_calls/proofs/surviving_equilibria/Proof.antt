@@ -66,11 +66,11 @@ returns c =
     let k = start a in
     kept k ForeignSurvivors (then-foreign (cs k) (ps k) (v k) (checked a .none-applies) (sym (c .before .is-foreign .ensures) ∙ c .if1 .taken))
 
-slice-aggregate-list-survivors : tie.Need-slice-aggregate-list-survivors
-slice-aggregate-list-survivors c = search needs
+slice-aggregate-list-surviving : tie.Need-slice-aggregate-list-surviving
+slice-aggregate-list-surviving c = search needs
 
-list-survivors-requires : tie.Need-list-survivors-requires
-list-survivors-requires c κs = let f = checked (c .before .before .before .before .before .before .before) in (f .table, (search needs, f .is))
+list-surviving-requires : tie.Need-list-surviving-requires
+list-surviving-requires c κs = let f = checked (c .before .before .before .before .before .before .before) in (f .table, (search needs, f .is))
 
 returns-2 : tie.Need-returns-2
 returns-2 c =
@@ -93,8 +93,8 @@ returns-3 c =
     let a = b .before .before .before in
     let k = start a in
     let own : survivorsRefusal (cs k) (ps k) (v k) ≡ none = not-foreign (cs k) (ps k) (v k) (checked a .none-applies) (sym (b .before .is-foreign .ensures) ∙ b .if1 .left) in
-    let made = d .list-survivors .last .1 .1 .1 .1 in
-    listing-told (cs k) (ps k) (survivingEquilibria (cs k) (ps k) (v k)) (out k) (made .0) (paid k) (made .1 .0) (survivorsRefusal (cs k) (ps k) (v k)) own (d .list-survivors .result) (d .list-survivors .ensures)
+    let made = d .list-surviving .last .1 .1 .1 .1 in
+    listing-told (cs k) (ps k) (survivingEquilibria (cs k) (ps k) (v k)) (out k) (made .0) (paid k) (made .1 .0) (survivorsRefusal (cs k) (ps k) (v k)) own (d .list-surviving .result) (d .list-surviving .ensures)
 
 pub surviving-equilibria-spec : {M : Type 1} → statement M
 surviving-equilibria-spec =
@@ -105,8 +105,8 @@ surviving-equilibria-spec =
     enum-known-profiles
     is-foreign-requires
     returns
-    slice-aggregate-list-survivors
-    list-survivors-requires
+    slice-aggregate-list-surviving
+    list-surviving-requires
     returns-2
     same-length
     same-length-2

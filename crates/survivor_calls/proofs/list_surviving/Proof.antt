@@ -1,7 +1,7 @@
--- `survivor_calls::list_survivors` meets its contract, which each of the three listings has. Assumes nothing.
+-- `survivor_calls::list_surviving` meets its contract, which each of the three listings has. Assumes nothing.
 use borrow.Author.Needs.{needs}
-use Rattle.survivor_calls.proofs.list_survivors.Statement.{statement}
-use Rattle.survivor_calls.proofs.list_survivors.Tie as tie
+use Rattle.survivor_calls.proofs.list_surviving.Statement.{statement}
+use Rattle.survivor_calls.proofs.list_surviving.Tie as tie
 
 small-equilibria-requires : tie.Need-small-equilibria-requires
 small-equilibria-requires c κs = let t = c .before .before in let s = t .before .before .before .before .before .before in (s .pre .0, (s .pre .1 .0, (s .pre .1 .1, t .if1 .taken)))
@@ -39,8 +39,8 @@ same-length-6 c = search needs
 returns-3 : tie.Need-returns-3
 returns-3 c = c .before .before .before .before .marked-equilibria .ensures
 
-pub list-survivors-spec : {M : Type 1} → statement M
-list-survivors-spec =
+pub list-surviving-spec : {M : Type 1} → statement M
+list-surviving-spec =
     tie.close
     (tie.spec
     small-equilibria-requires
