@@ -7,6 +7,7 @@ use refusal::UsizeOption;
 use test_lines::Case;
 use test_lines::ELEMENTS;
 use test_lines::LINE;
+use test_lines::first_bytes;
 use test_lines::line_at;
 use test_lines::name;
 use test_lines::next;
@@ -14,6 +15,7 @@ use test_lines::read_case;
 use test_lines::read_floats;
 use test_lines::read_numbers;
 use test_lines::start;
+use test_lines::write_numbers;
 use test_print::answer;
 use test_print::number;
 use test_print::output;
@@ -71,31 +73,6 @@ fn write_file(words: &[usize], rest: &[usize], n: usize, bytes: &mut [u8]) {
         }
         bytes[i] = file_byte(words, rest, i);
         i += 1;
-    }
-}
-
-fn wide(x: u8) -> usize {
-    x as usize
-}
-
-// The numbers of bytes.
-fn write_numbers(bytes: &[u8], list: &mut [usize]) {
-    let mut i = 0;
-    while i < list.len() {
-        if bytes.len() <= i {
-            return;
-        }
-        list[i] = wide(bytes[i]);
-        i += 1;
-    }
-}
-
-// The first n bytes, or all of them where there are fewer.
-fn first_bytes(bytes: &mut [u8], n: usize) -> &mut [u8] {
-    if n < bytes.len() {
-        &mut bytes[..n]
-    } else {
-        bytes
     }
 }
 

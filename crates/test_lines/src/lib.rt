@@ -835,6 +835,33 @@ pub fn eight(list: &[usize]) -> [usize; MAX_PLAYERS] {
     places
 }
 
+// ---- bytes
+
+fn wide(x: u8) -> usize {
+    x as usize
+}
+
+// The numbers of bytes, at the first places of a list.
+pub fn write_numbers(bytes: &[u8], list: &mut [usize]) {
+    let mut i = 0;
+    while i < list.len() {
+        if bytes.len() <= i {
+            return;
+        }
+        list[i] = wide(bytes[i]);
+        i += 1;
+    }
+}
+
+// The first n bytes, or all of them where there are fewer.
+pub fn first_bytes(bytes: &mut [u8], n: usize) -> &mut [u8] {
+    if n < bytes.len() {
+        &mut bytes[..n]
+    } else {
+        bytes
+    }
+}
+
 // ---- lines
 
 // The lines of standard input: where the line stands in the buffer, how far the buffer is filled,

@@ -8,6 +8,7 @@ use refusal::UsizeResult;
 use test_lines::Case;
 use test_lines::ELEMENTS;
 use test_lines::LINE;
+use test_lines::first_bytes;
 use test_lines::line_at;
 use test_lines::name;
 use test_lines::next;
@@ -15,6 +16,7 @@ use test_lines::read_case;
 use test_lines::read_floats;
 use test_lines::read_numbers;
 use test_lines::start;
+use test_lines::write_numbers;
 use test_print::output;
 use test_print::output_floats;
 use test_print::text;
@@ -81,7 +83,7 @@ fn mark_and_list(
 
 // ---- bytes
 
-// The numbers as bytes, each modulo 256, and bytes as numbers.
+// The numbers as bytes, each modulo 256.
 fn write_bytes(list: &[usize], bytes: &mut [u8]) {
     let mut i = 0;
     while i < bytes.len() {
@@ -90,30 +92,6 @@ fn write_bytes(list: &[usize], bytes: &mut [u8]) {
         }
         bytes[i] = (list[i] % 0x100) as u8;
         i += 1;
-    }
-}
-
-fn wide(x: u8) -> usize {
-    x as usize
-}
-
-fn write_numbers(bytes: &[u8], list: &mut [usize]) {
-    let mut i = 0;
-    while i < list.len() {
-        if bytes.len() <= i {
-            return;
-        }
-        list[i] = wide(bytes[i]);
-        i += 1;
-    }
-}
-
-// The first n bytes, or all of them where there are fewer.
-fn first_bytes(bytes: &mut [u8], n: usize) -> &mut [u8] {
-    if n < bytes.len() {
-        &mut bytes[..n]
-    } else {
-        bytes
     }
 }
 

@@ -1,10 +1,10 @@
--- `test_files::first_bytes` is safe: the part ends within the bytes.
+-- `test_lines::first_bytes` is safe: the part ends within the bytes.
 -- Assumes nothing.
 use lib.ListN.{length-take}
 use native.Mathlib.Omega.{arith}
 use borrow.Author.Needs.{needs}
-use Rattle.test_files.proofs.first_bytes.Statement.{statement}
-use Rattle.test_files.proofs.first_bytes.Tie as tie
+use Rattle.test_lines.proofs.first_bytes.Statement.{statement}
+use Rattle.test_lines.proofs.first_bytes.Tie as tie
 
 slice-aggregate-result : tie.Need-slice-aggregate-result
 slice-aggregate-result c = rw length-take (omega arith)

@@ -1,12 +1,12 @@
--- `test_marks::write_numbers` is safe and ends. The loop's invariant: the list is as long as at the
+-- `test_lines::write_numbers` is safe and ends. The loop's invariant: the list is as long as at the
 -- start. The measure is what is left of it.
 -- Assumes nothing.
 use mathlib.Core.Path.{_≡_}
 use Prim.Native.Nat.{_-_}
 use lib.ListN.{length}
 use borrow.Author.Needs.{needs}
-use Rattle.test_marks.proofs.write_numbers.Statement.{statement}
-use Rattle.test_marks.proofs.write_numbers.Tie as tie
+use Rattle.test_lines.proofs.write_numbers.Statement.{statement}
+use Rattle.test_lines.proofs.write_numbers.Tie as tie
 
 abbrev Inv-loop : tie.InvT-loop
 Inv-loop bytes list₀ i₀ list i = length list ≡ length list₀
