@@ -4,6 +4,7 @@ ghost use mathlib.Core.Path.{_≡_};
 ghost use lib.Ieee.{binary64, ofBits, toBits};
 ghost use mathlib.Core.Bool.{false};
 ghost use lib.ListN.{length, getD, take};
+ghost use Rattle.written_lists.specs.Outputs.{over};
 use libc::STDIN_FILENO;
 use libc::STDOUT_FILENO;
 use table::MAX_MARKS;
@@ -837,24 +838,24 @@ pub fn eight(list: &[usize]) -> [usize; MAX_PLAYERS] {
 
 // ---- bytes
 
-fn wide(x: u8) -> usize {
-    x as usize
-}
-
-// The numbers of bytes, at the first places of a list.
-pub fn write_numbers(bytes: &[u8], list: &mut [usize]) {
+// The numbers of the first bytes at the first places of a list, as many as it has; places past them keep their contents.
+pub fn write_numbers(bytes: &[u8], list: &mut [usize])
+    ensures { λ r. ⌜ now (list .exit) ≡ over (take (length (now (list .entry))) (now (bytes .entry))) (now (list .entry)) ⌝ }
+{
     let mut i = 0;
     while i < list.len() {
         if bytes.len() <= i {
             return;
         }
-        list[i] = wide(bytes[i]);
+        list[i] = bytes[i] as usize;
         i += 1;
     }
 }
 
 // The first n bytes, or all of them where there are fewer.
-pub fn first_bytes(bytes: &mut [u8], n: usize) -> &mut [u8] {
+pub fn first_bytes(bytes: &mut [u8], n: usize) -> &mut [u8]
+    ensures { λ r. ⌜ now r ≡ take n (now (bytes .entry)) ⌝ }
+{
     if n < bytes.len() {
         &mut bytes[..n]
     } else {

@@ -1,8 +1,6 @@
-// The cases of marks of best responses: a function to each call of docs/TESTING.md.
-// `mark_and_list` is change N3 of the scope as a statement about its own calls, made one after the other:
-// it marks the best responses, lists the profiles by these marks, and then the equilibria; its
-// contract says, for every table, buffer and outputs, that the listing by marks told and wrote what
-// the plain listing does with outputs of these lengths, where the sweep was accepted.
+// The cases of marks of best responses: a function to each call of docs/TESTING.md. The contract of
+// `mark_and_list` is change N3 of the scope as a statement about its own calls, made one after the
+// other.
 use refusal::ListingResult;
 use refusal::UsizeResult;
 use test_lines::Case;
@@ -39,10 +37,10 @@ struct Marked {
     whole: ListingResult,
 }
 
-// The calls one after the other: `best_response_marks` into the bytes;
-// `marked_profiles` on the bytes as they then stand, into the first two outputs; `equilibria`, into
-// the other two. Each answers and writes what it has to. Where the sweep is accepted the listing by
-// marks tells and writes what `equilibria` does with outputs of the same lengths.
+// `best_response_marks` into the bytes; `marked_profiles` on the bytes as they then stand, into the
+// first two outputs; `equilibria`, into the other two. Each answers and writes what it has to, for
+// every table, buffer and outputs; and where the sweep is accepted the listing from marks tells and
+// writes what `equilibria` does with outputs of the same lengths.
 fn mark_and_list(
     counts: &[usize],
     payoffs: &[f64],
