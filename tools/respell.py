@@ -19,8 +19,9 @@ import sys
 NAME = r"[^\s(){}.;,@\"«»:]+"
 DECLARED = re.compile(r"^( *)((?:abbrev |unfoldable |pub |data |record )*)(" + NAME + r")((?: [({].*)?) : ?(.*)$")
 WORD = re.compile(r"[^\s(){}.;,@\"«»]+")
-# Facts that were spelled like functions.
+# Facts that were spelled like functions, each in the one file that has it.
 FACTS = {"two": "Two"}
+FACT_FILES = {"two": "crates/mark_responses/proofs/Rows.antt"}
 # Lemmas whose plain name the toolchain's library has.
 TAKEN = {"flat-map": "flat_map_lem", "slice-val": "slice_val_lem"}
 
@@ -199,7 +200,7 @@ def main():
         text = read(path)
         own = dict(table)
         for n, new in facts.items():
-            if path in found[n]:
+            if path == FACT_FILES[n]:
                 own[n] = new
         for w in of_the_kit(text):
             own.pop(w, None)

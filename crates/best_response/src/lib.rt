@@ -1,5 +1,7 @@
 // Best responses: the strategies of a player whose payoff no other strategy of that player exceeds, against given choices of the others.
 // They are found along a row (`strategy_row`), whose functions are over marks; a table is the case where every strategy is marked.
+#![tactic(auto)]
+
 ghost use Rattle.std.specs.Prelude.{◌≡◌, ℕ, ◌+◌, ◌*◌, ◌<◌, length, get_or};
 ghost use Rattle.refusal.specs.Told.{told_usize, unless};
 ghost use Rattle.written_lists.specs.Outputs.{over};

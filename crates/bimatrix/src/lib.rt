@@ -1,5 +1,7 @@
 // Games of two players with 2 strategies each, as two matrices of numbers: swapping rows and columns, and the key that document 01, "The
 // catalogue", makes of ranks. Any numbers may be handed in.
+#![tactic(auto)]
+
 ghost use Rattle.std.specs.Prelude.{◌≡◌, min};
 ghost use Rattle.bimatrix.specs.Matrices.{in_order, swap_rows, swap_columns, both};
 ghost use Rattle.bimatrix.specs.Keys.{different, strictly_ranked, base4, key, least_key};

@@ -1,1 +1,2 @@
 // How an answer is told to C: definitions and their laws, no code.
+#![tactic(auto)]

@@ -1,4 +1,6 @@
 // What goes between a call and C: an answer into its outputs, which a refused answer leaves as they were, and survivors as C holds them.
+#![tactic(auto)]
+
 ghost use Rattle.std.specs.Prelude.{◌≡◌, not, map, eqb};
 ghost use Rattle.refusal.specs.Told.{told_of, told_unit, told_usize, told_bool, told_listing, status, byte_of};
 ghost use Rattle.utility.specs.Value.{told_utility};

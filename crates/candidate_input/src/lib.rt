@@ -1,5 +1,7 @@
 // What is handed in to the candidate checks, tested: tables flat by rows, of m rows and n columns, weights, vectors and a claim. Nothing of it
 // is believed.
+#![tactic(auto)]
+
 ghost use Rattle.std.specs.Prelude.{◌≡◌, not};
 ghost use Rattle.std.specs.Float.Ieee.{lt};
 ghost use Rattle.game.specs.Finite.{all};

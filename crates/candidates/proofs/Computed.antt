@@ -24,8 +24,8 @@ minus_one = of_bits binary64 0xbff0_0000_0000_0000
 half : Float
 half = of_bits binary64 0x3fe0_0000_0000_0000
 
-unfoldable pub Two : Float
-Two = of_bits binary64 0x4000_0000_0000_0000
+unfoldable pub two : Float
+two = of_bits binary64 0x4000_0000_0000_0000
 
 unfoldable pub three : Float
 three = of_bits binary64 0x4008_0000_0000_0000
@@ -53,10 +53,10 @@ small = of_bits binary64 0x3c98_0000_0000_0000
 -- ---- the prisoner's dilemma, (2,2) (0,3) (3,0) (1,1), by player
 
 unfoldable pub first : List Float
-first = Two ∷ zero ∷ three ∷ one ∷ []
+first = two ∷ zero ∷ three ∷ one ∷ []
 
 unfoldable pub second : List Float
-second = Two ∷ three ∷ zero ∷ one ∷ []
+second = two ∷ three ∷ zero ∷ one ∷ []
 
 -- all weight on 0 0, and on 1 1
 unfoldable pub at_start : List Float
@@ -119,7 +119,7 @@ record Computed : Type 0 where
   unbounded : minimax 1 1 (huge ∷ []) (one ∷ []) (one ∷ []) (claim huge huge) ≡ true
 
 computed : Computed
-unfolding flat_map Ieee.of_bits Ieee.add Ieee.sub Ieee.mul Ieee.neg Ieee.lt finite distance well_formed answer_of gains incentives verdict_of sums_to_one distribution claimed minimax minus_zero minus_one half Two three huge minus_huge wide minus_wide below_one small first second at_start at_end pennies halves corner nothing claim
+unfolding flat_map Ieee.of_bits Ieee.add Ieee.sub Ieee.mul Ieee.neg Ieee.lt finite distance well_formed answer_of gains incentives verdict_of sums_to_one distribution claimed minimax minus_zero minus_one half two three huge minus_huge wide minus_wide below_one small first second at_start at_end pennies halves corner nothing claim
 computed = record {
   ascending = refl;
   another_order = refl;

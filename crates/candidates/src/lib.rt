@@ -3,6 +3,8 @@
 //
 // All sums of one kind are taken side by side, each of them in its own order. In the calls of `gains` and `mixed_strategies` `own` is n and
 // `other` is 1 for player 1, and for player 2 `own` is 1 and `other` is n.
+#![tactic(auto)]
+
 ghost use Rattle.std.specs.Prelude.{◌≡◌};
 ghost use Rattle.candidates.specs.Checks.{incentives, verdict_of, minimax};
 

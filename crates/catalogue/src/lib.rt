@@ -1,5 +1,7 @@
 // The catalogue of document 01: a number for each strictly ranked 2 x 2 table. Two tables have the same number exactly where swapping rows,
 // columns, both or neither turns the ranks of one into those of the other.
+#![tactic(auto)]
+
 ghost use Rattle.std.specs.Prelude.{◌≡◌, ◌+◌, ◌<◌, length};
 ghost use Rattle.refusal.specs.Told.{option_usize};
 ghost use Rattle.payoff_tables.specs.Table.{cell_rank, table_game};

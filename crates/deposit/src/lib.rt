@@ -1,6 +1,8 @@
 // The deposit file: a table as bytes. The format is document 01's, "The deposit file"; its definition stands in specs/Deposit, on the words of
 // `words`. Reading and writing undo each other, bits and all: proofs/Back. `deposit_reader` and `deposit_writer` have the calls; here are the
 // numbers that both use, and the opening word.
+#![tactic(auto)]
+
 ghost use Rattle.std.specs.Prelude.{◌≡◌};
 ghost use Rattle.refusal.specs.Refusal.{◌then◌};
 ghost use Rattle.refusal.specs.Told.{told_usize, unless};

@@ -53,9 +53,9 @@ pub four_stores : (bytes : List ℕ) (at a b c d : ℕ)
     → set (set (set (set bytes at a) (at + 1) b) (at + 2) c) (at + 3) d ≡ sets bytes at (a ∷ b ∷ c ∷ d ∷ [])
 four_stores bytes at a b c d =
     let one : at + 1 ≡ suc at = omega arith in
-    let Two : at + 2 ≡ suc (suc at) = omega arith in
+    let two : at + 2 ≡ suc (suc at) = omega arith in
     let three : at + 3 ≡ suc (suc (suc at)) = omega arith in
-    rw (one, Two, three) refl
+    rw (one, two, three) refl
 
 pub word_stores : (bytes : List ℕ) (place k n : ℕ)
     → sets bytes (4 * place) (word_bytes (word k n)) ≡ words_put bytes place (word k n ∷ [])

@@ -11,7 +11,7 @@ use Rattle.digits_and_lines.specs.Text.{decimal, space, spaced, joined, line}
 
 pub spaced_append : (v w : List (List ℕ)) → spaced (v ++ w) ≡ spaced v ++ spaced w
 unfolding spaced
-spaced_append v w = flat_map_append _ v w
+spaced_append v w = flat_map_append (λ w'. space ∷ w') v w
 
 pub joined_append : (a : List ℕ) (v w : List (List ℕ)) → joined ((a ∷ v) ++ w) ≡ joined (a ∷ v) ++ spaced w
 unfolding joined

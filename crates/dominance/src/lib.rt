@@ -1,1 +1,2 @@
 // The dominated strategies of a player in a table: definitions and their laws, no code.
+#![tactic(auto)]

@@ -3,6 +3,8 @@
 // refused, it writes nothing. Calls that have no refusals, as the candidate checks, answer by
 // themselves.
 // A slice is a pointer and the number of its elements.
+#![tactic(auto)]
+
 ghost use Rattle.std.specs.Prelude.{◌≡◌, map, ℕ, length};
 ghost use Rattle.game.specs.Finite.{all};
 ghost use Rattle.game.specs.Game.{strategy as named};

@@ -1,5 +1,7 @@
 // The gains of a player who changes one strategy for another, and the greatest of them. A player has `count` strategies and the other one
 // `others`; the number of own strategy s and the other's o stands at s × own + o × other in a table.
+#![tactic(auto)]
+
 ghost use Rattle.std.specs.Prelude.{◌≡◌, not, map, ◌<◌, ◌≤◌, eqb, length, get_or};
 ghost use Rattle.std.specs.Float.{nan};
 ghost use Rattle.game.specs.Finite.{below, filter};

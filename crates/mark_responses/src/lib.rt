@@ -1,6 +1,8 @@
 // All best responses of a table in one sweep: a byte for each cell, 1 where the profile's choice is a best response of that player and 0 where
 // it is not. The sweep is over marks of strategies, and a table is the case where every strategy is marked. Each payoff is read twice, for the
 // greatest of its row and to be held against it, and where a row is taken by itself four times, whatever the payoffs are.
+#![tactic(auto)]
+
 ghost use Rattle.std.specs.Prelude.{◌≡◌, cond, not, map, ℕ, ◌+◌, ◌*◌, ◌<◌, ◌≤◌, T, length, take};
 ghost use Rattle.game.specs.Finite.{product};
 ghost use Rattle.refusal.specs.Told.{values, told_usize, byte_of};

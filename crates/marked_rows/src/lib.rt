@@ -1,5 +1,7 @@
 // The profiles in which a player chooses 0 and every other choice is marked, from one to the next, by their offsets: the rows that a strategy
 // is tested in. No choice without a mark is passed through, and no division is needed.
+#![tactic(auto)]
+
 ghost use Rattle.std.specs.Prelude.{◌≡◌, ◌+◌, ◌≤◌, ◌<◌, length};
 ghost use Rattle.game.specs.Finite.{product};
 ghost use Rattle.payoff_tables.specs.Limits.{max_players, max_marks};

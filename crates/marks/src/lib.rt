@@ -1,1 +1,2 @@
 // The marks of strategies as a list of places: a definition and its laws, no code.
+#![tactic(auto)]

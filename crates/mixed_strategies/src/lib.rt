@@ -1,6 +1,8 @@
 // Mixed strategies: whether a vector is a distribution up to a tolerance, and whether the expectations under a vector stay within bounds. A
 // player has `count` strategies and the other one `others`; the number of own strategy s and the other's o stands at s × own + o × other in a
 // table.
+#![tactic(auto)]
+
 ghost use Rattle.std.specs.Prelude.{◌≡◌, true, ◌<◌, ◌≤◌, length, get_or, Float};
 ghost use Rattle.std.specs.Float.{nan};
 ghost use Rattle.std.specs.Float.Ieee.{lt};

@@ -1,5 +1,7 @@
 // Putting elements into an output one after the other, as far as there is room. A place past the end is the end, so that no call has to be
 // refused; whoever needs all of a list shows that the output holds it.
+#![tactic(auto)]
+
 ghost use Rattle.std.specs.Prelude.{◌≡◌, [], ◌∷◌, min};
 ghost use Rattle.std.proofs.lemmas.List.Edits.{sets};
 ghost use Rattle.outputs.specs.Put.{past};

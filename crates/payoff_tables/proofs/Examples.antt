@@ -13,8 +13,8 @@ zero = of_bits binary64 0
 abbrev pub one : Float
 one = of_bits binary64 0x3ff0_0000_0000_0000
 
-abbrev pub Two : Float
-Two = of_bits binary64 0x4000_0000_0000_0000
+abbrev pub two : Float
+two = of_bits binary64 0x4000_0000_0000_0000
 
 abbrev pub three : Float
 three = of_bits binary64 0x4008_0000_0000_0000
@@ -35,7 +35,7 @@ pair = 2 ∷ 2 ∷ []
 
 -- (2,2) (0,3) (3,0) (1,1): the prisoner's dilemma
 abbrev pub dilemma : List Float
-dilemma = Two ∷ Two ∷ zero ∷ three ∷ three ∷ zero ∷ one ∷ one ∷ []
+dilemma = two ∷ two ∷ zero ∷ three ∷ three ∷ zero ∷ one ∷ one ∷ []
 
 -- (1,0) (0,1) (0,1) (1,0): matching pennies
 abbrev pub pennies : List Float
@@ -47,4 +47,4 @@ after = one ∷ one ∷ zero ∷ zero ∷ zero ∷ one ∷ one ∷ zero ∷ []
 
 -- (2,2) (0,0) (0,0) (1,1)
 abbrev pub twice : List Float
-twice = Two ∷ Two ∷ zero ∷ zero ∷ zero ∷ zero ∷ one ∷ one ∷ []
+twice = two ∷ two ∷ zero ∷ zero ∷ zero ∷ zero ∷ one ∷ one ∷ []

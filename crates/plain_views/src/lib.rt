@@ -1,5 +1,7 @@
 // The view's calls for callers that hold no view: each makes one of its fields and calls it. No contract here names a view or a lent list of
 // records, so that callers need no walk by hand.
+#![tactic(auto)]
+
 ghost use Rattle.std.specs.Prelude.{◌≡◌, length};
 ghost use Rattle.game.specs.Game.{strategy as named};
 ghost use Rattle.refusal.specs.Told.{told_bool, told_listing, told_unit, told_usize, unless, unless_refused};

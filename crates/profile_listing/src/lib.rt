@@ -1,5 +1,7 @@
 // The profiles of a table by their marks, a byte for each cell, written down: P choices and P payoffs of each, one after the other, in profile
 // order, as far as both outputs hold them whole.
+#![tactic(auto)]
+
 ghost use Rattle.std.specs.Prelude.{◌≡◌, [], ◌++◌, ◌+◌, ◌<◌, ◌≤◌, length, get_or, take, drop};
 ghost use Rattle.game.specs.Finite.{product};
 ghost use Rattle.game.specs.Game.{profiles};

@@ -1,4 +1,6 @@
 // The step from a profile to the next.
+#![tactic(auto)]
+
 ghost use Rattle.std.specs.Prelude.{◌≡◌};
 ghost use Rattle.profile_step.specs.Step.{step};
 

@@ -2,6 +2,8 @@
 // marks of strategies, with profiles of marked choices and changes to marked strategies; a table is the case where every strategy is marked.
 // `mark_responses` marks every cell in which the choice is a best response, and `profile_listing` writes down the profiles that have no 0
 // among their marks.
+#![tactic(auto)]
+
 ghost use Rattle.std.specs.Prelude.{◌≡◌, [], ℕ, ◌<◌, ◌≤◌, length, get_or};
 ghost use Rattle.game.specs.Finite.{all, below, product};
 ghost use Rattle.game.specs.Game.{profiles};

@@ -1,6 +1,8 @@
 // The refusals of document 01, each with its number, and the answers that hold one.
 // Rust's `Result<T, NormalFormError>` is an enum for each T: `Ok` with the value, or `Err` with the refusal.
 // `UsizeOption` is Rust's `Option<usize>`.
+#![tactic(auto)]
+
 ghost use Rattle.std.specs.Prelude.{◌≡◌};
 ghost use Rattle.refusal.specs.Refusal.{number_of};
 

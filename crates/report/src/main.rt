@@ -1,6 +1,8 @@
 // The report on a deposit file: it reads the file from standard input, and writes the report to
 // standard output. Where a read fails it writes no report. Where a read or a write fails it says so
 // in a line on standard error, and ends with status 0 all the same: the language has no other.
+#![tactic(auto)]
+
 ghost use Rattle.io.specs.Counts.{IsPrefixLen};
 
 use libc::{EINTR, STDIN_FILENO, STDOUT_FILENO};

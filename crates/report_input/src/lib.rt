@@ -1,4 +1,6 @@
 // The deposit file as the report reads it: at most 2,048 cells.
+#![tactic(auto)]
+
 ghost use Rattle.std.specs.Prelude.{◌≡◌, length};
 ghost use Rattle.refusal.specs.Told.{told_usize, told_of};
 ghost use Rattle.written_lists.specs.Outputs.{written_of, over};

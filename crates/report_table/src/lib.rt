@@ -1,4 +1,6 @@
 // The report on a table, put into a lent buffer byte for byte as specs/Report defines it.
+#![tactic(auto)]
+
 ghost use Rattle.std.specs.Prelude.{◌≡◌, [], ◌∷◌, ◌≤◌, length};
 ghost use Rattle.std.proofs.lemmas.List.Edits.{sets};
 ghost use Rattle.payoff_tables.specs.Table.{table_game};

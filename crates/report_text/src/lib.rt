@@ -1,4 +1,6 @@
 // The report on a deposit file: from the file's bytes to the report's, as specs/Report defines it.
+#![tactic(auto)]
+
 ghost use Rattle.std.specs.Prelude.{◌≡◌, ◌≤◌, length, take};
 ghost use Rattle.std.proofs.lemmas.List.Edits.{sets};
 ghost use Rattle.written_lists.specs.Outputs.{over};

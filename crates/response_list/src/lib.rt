@@ -1,5 +1,7 @@
 // Best responses as a list of records, as in the Rust. No function that has a reference to records is covered by the prover's own walk, so the
 // functions that lend the list or write it are thin, and leave the rest to `find_responses`.
+#![tactic(auto)]
+
 ghost use Rattle.std.specs.Prelude.{◌≡◌, ◌≤◌, length, take};
 ghost use Rattle.refusal.specs.Told.{told_usize};
 ghost use Rattle.written_lists.specs.Outputs.{over, written};

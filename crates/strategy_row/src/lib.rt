@@ -1,5 +1,7 @@
 // A row, the cells of one player's strategies: strategy t's payoff is payoffs[start + t × step], and its mark marks[place + t]. The walks
 // along it behind best responses and equilibria.
+#![tactic(auto)]
+
 ghost use Rattle.std.specs.Prelude.{◌≡◌, map, ℕ, ◌+◌, ◌*◌, ◌<◌, ◌≤◌, length, get_or};
 ghost use Rattle.std.specs.Float.{nan};
 ghost use Rattle.written_lists.specs.Outputs.{over};

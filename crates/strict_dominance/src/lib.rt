@@ -1,5 +1,7 @@
 // Strict dominance by pure strategies: t dominates s of the same player where t's payoff is greater against every choice of the others.
 // The walk is over marks, against the marked choices of the others; a table is the case where every strategy is marked.
+#![tactic(auto)]
+
 ghost use Rattle.std.specs.Prelude.{◌≡◌, false, ℕ, ◌+◌, ◌≤◌, ◌<◌, T, length, get_or, take};
 ghost use Rattle.game.specs.Finite.{product};
 ghost use Rattle.game.specs.Solution.{dominator};

@@ -1,5 +1,7 @@
 // Lists of strikes. Whatever list of strikes is made on a table, the equilibria listed over the survivors are the whole table's: demand 3,
 // which the contract of `strikes` has. The table is one value through all the calls of a list: nobody writes it meanwhile.
+#![tactic(auto)]
+
 ghost use Rattle.std.specs.Prelude.{◌≡◌, cond, map, ℕ, ◌<◌, ◌≤◌, length, set};
 ghost use Rattle.refusal.specs.Told.{values, refused, told_usize, status, tells};
 ghost use Rattle.written_lists.specs.Outputs.{over};

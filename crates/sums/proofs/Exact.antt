@@ -41,6 +41,10 @@ crossed x y d g a c C p q =
     (mul_right_comm x g c ∙ ap (λ (i : ℕ). i * g) p ∙ mul_right_comm a d g ∙ ap (λ (i : ℕ). i * d) (sym q) ∙ mul_right_comm y c d)
 
 pub one_value : (x y : Float) (s : Bool) (a c : ℕ) → T (fits binary64 x) → T (fits binary64 y) → 0 < c → HasValue x s a c → HasValue y s a c → x ≡ y
+one_value nan y s a c h k C v _ = elim v [ ]
+one_value (inf _) y s a c h k C v _ = elim v [ ]
+one_value (fin t m e) nan s a c h k C _ w = elim w [ ]
+one_value (fin t m e) (inf _) s a c h k C _ w = elim w [ ]
 one_value (fin t m e) (fin r n d) s a c h k C (p, v) (q, w) =
     let l = 2 ^ low binary64 in
     let x : m * up e * down d ≡ n * up d * down e = crossed (m * up e) (n * up d) (down e) (down d) a c C v w in

@@ -1,4 +1,6 @@
 // Sums of f64s, taken left to right, and sums taken side by side, each of them in its own order.
+#![tactic(auto)]
+
 ghost use Rattle.std.specs.Prelude.{◌≡◌, false, ℕ, ◌+◌, ◌*◌, ◌<◌, ◌≤◌, length, get_or};
 ghost use Rattle.std.specs.Float.{nan, inf, binary64};
 ghost use Rattle.std.specs.Float.Ieee.{sub, mul};

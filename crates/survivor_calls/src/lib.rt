@@ -1,5 +1,7 @@
 // The calls on survivors: a strike takes a strategy out of a game because another surviving strategy of its player strictly dominates it
 // against all surviving choices of the others; and the equilibria among the survivors.
+#![tactic(auto)]
+
 ghost use Rattle.std.specs.Prelude.{◌≡◌, length};
 ghost use Rattle.game.specs.Finite.{product};
 ghost use Rattle.game.specs.Game.{strategy as named};

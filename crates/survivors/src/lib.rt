@@ -1,5 +1,7 @@
 // The survivors of a table: the record, fresh survivors, which survivors are foreign, and the survivors without one mark. Survivors are a record
 // by value, and any record may be handed in.
+#![tactic(auto)]
+
 ghost use Rattle.std.specs.Prelude.{◌≡◌, ◌<◌, length};
 ghost use Rattle.game.specs.Game.{strategy as named};
 ghost use Rattle.refusal.specs.Told.{told_unit, unless, unless_refused};

@@ -1,4 +1,6 @@
 // Strikes sweep after sweep: players then strategies ascending, until a sweep strikes nothing.
+#![tactic(auto)]
+
 ghost use Rattle.std.specs.Prelude.{◌≡◌, [], ◌∷◌, map, ◌<◌, length, get_or};
 ghost use Rattle.std.proofs.lemmas.List.Edits.{sets};
 ghost use Rattle.game.specs.Finite.{below};

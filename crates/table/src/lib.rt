@@ -1,5 +1,7 @@
 // Tables of payoffs: their checks, and a profile's offset and payoffs.
 // A table is two slices, the players' counts and the payoffs; P is the number of counts. Any numbers and lengths may be handed in.
+#![tactic(auto)]
+
 ghost use Rattle.std.specs.Prelude.{◌≡◌, ◌+◌, ◌*◌, min, ◌<◌, ltb, length};
 ghost use Rattle.std.proofs.Math.Option.{none};
 ghost use Rattle.refusal.specs.Told.{told_unit, told_usize, unless};

@@ -1,4 +1,6 @@
 // The cases of the candidate checks: a function to each call of docs/TESTING.md.
+#![tactic(auto)]
+
 use candidates::Claim;
 use test_lines::{Case, ELEMENTS, LINE, line_at, name, next, read_case, read_floats, start};
 use test_print::{answer, float, text};

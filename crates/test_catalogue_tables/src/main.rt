@@ -4,6 +4,8 @@
 // ranked one. A line for each number of the catalogue: how often it came, and the keys of the first
 // four tables. 576 tables are strictly ranked, so each comes four times; the others have ties, and
 // how many had no number is the last line.
+#![tactic(auto)]
+
 ghost use Rattle.std.specs.Prelude.{◌<◌};
 
 use catalogue::{KEYS, NumberResult};

@@ -11,6 +11,8 @@
 // Each element of an output holds a filling before the call. `wrong` stands in place of an answer
 // where a refused call wrote something, an accepted one wrote past its result, or `write` does not
 // give the very file back that was read.
+#![tactic(auto)]
+
 ghost use Rattle.std.specs.Prelude.{◌≡◌, ◌<◌, length};
 
 use refusal::UsizeResult;

@@ -1,4 +1,6 @@
 // The cases of deposit files and of the catalogue: a function to each call of docs/TESTING.md.
+#![tactic(auto)]
+
 use bimatrix::{Bimatrix, Matrix};
 use catalogue::{KEYS, NumberResult};
 use refusal::UsizeOption;

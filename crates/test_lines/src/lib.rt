@@ -1,5 +1,7 @@
 // Lines of test cases, as docs/TESTING.md has them: a name, a call and its arguments. What a field
 // holds is read as 64-bit words, a float by its bits, so that one function reads every list.
+#![tactic(auto)]
+
 ghost use Rattle.std.specs.Prelude.{◌≡◌, false, length, take, from_bits, slice_index, to_bits};
 ghost use Rattle.std.specs.Float.{binary64};
 ghost use Rattle.written_lists.specs.Outputs.{over};

@@ -1,6 +1,8 @@
 // The cases of marks of best responses: a function to each call of docs/TESTING.md. The contract of
 // `mark_and_list` is change N3 of the scope as a statement about its own calls, made one after the
 // other.
+#![tactic(auto)]
+
 ghost use Rattle.std.specs.Prelude.{◌≡◌, ℕ, length};
 ghost use Rattle.refusal.specs.Told.{told_usize, told_listing, values};
 ghost use Rattle.written_lists.specs.Outputs.{over};

@@ -1,5 +1,7 @@
 // What the test programs print to standard output, as docs/TESTING.md has it: numbers, floats, what
 // a call told and what its outputs hold, each after a space.
+#![tactic(auto)]
+
 use libc::STDOUT_FILENO;
 use refusal::{BoolResult, ListingResult, UnitResult, UsizeResult};
 

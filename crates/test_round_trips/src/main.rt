@@ -2,6 +2,8 @@
 // `write_read` and `read_write` say so for every table, every file and all outputs, and both run on
 // the prisoner's dilemma and on a table with both zeros. One line each: the answer, then what came
 // back.
+#![tactic(auto)]
+
 ghost use Rattle.std.specs.Prelude.{◌≡◌, length};
 ghost use Rattle.refusal.specs.Told.{told_usize, told_of};
 ghost use Rattle.written_lists.specs.Outputs.{written_of, over};

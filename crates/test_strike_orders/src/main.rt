@@ -8,6 +8,8 @@
 //     and the same total into short outputs, and after each accepted strike too;
 //     `strikes` on the same list answers, and leaves, the same.
 // Only counts are printed, and the table's number where one of these does not hold.
+#![tactic(auto)]
+
 use refusal::{Listed, ListingResult, UsizeResult};
 use survivors::Survivors;
 use table::{MAX_MARKS, MAX_PLAYERS, MAX_STRATEGIES};

@@ -1,5 +1,7 @@
 // The cases of survivors and strikes: a function to each call of docs/TESTING.md. Each takes the
 // survivors that are kept and hands back those that are kept for the next line.
+#![tactic(auto)]
+
 use survivor_calls::StrikeResult;
 use survivors::Survivors;
 use test_lines::{

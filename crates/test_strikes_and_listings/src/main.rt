@@ -9,6 +9,8 @@
 //     accepted, and each listing's answer, both numbers or the refusal, and its choices and payoffs,
 //     as they stand in its outputs;
 //     strike_twice, COUNTS, PAYOFFS, player, strategy: both answers, from fresh survivors.
+#![tactic(auto)]
+
 ghost use Rattle.std.specs.Prelude.{◌≡◌, cond, ℕ, ◌+◌, length};
 ghost use Rattle.std.proofs.Math.Option.{none};
 ghost use Rattle.game.specs.Finite.{sum};

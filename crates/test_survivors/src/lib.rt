@@ -1,5 +1,7 @@
 // Survivors, and the answers beside them, as the test programs print them; and survivors of
 // numbers.
+#![tactic(auto)]
+
 ghost use Rattle.std.specs.Prelude.{◌≡◌};
 
 use survivor_calls::StrikeResult;

@@ -1,4 +1,6 @@
 // The cases of utilities, tables, profiles and solvers: a function to each call of docs/TESTING.md.
+#![tactic(auto)]
+
 use table::{SpaceResult, StrategySpace};
 use test_lines::{
     Case, ELEMENTS, LINE, eight, line_at, name, next, read_case, read_floats, read_numbers, start,

@@ -1,5 +1,7 @@
 // The cases of lists of records and of views: a function to each call of docs/TESTING.md. Each
 // takes the survivors that are kept and hands back those that are kept for the next line.
+#![tactic(auto)]
+
 use response_list::{BestResponse, ResponseList, no_records};
 use survivors::Survivors;
 use table::MAX_STRATEGIES;

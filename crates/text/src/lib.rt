@@ -1,5 +1,7 @@
 // Text in a lent buffer: words, numbers in decimal and hexadecimal digits, and lines. Each call puts its text at a place, as far as there is room,
 // and gives the place after it (`outputs`).
+#![tactic(auto)]
+
 ghost use Rattle.std.specs.Prelude.{◌≡◌, ◌∷◌, map};
 ghost use Rattle.std.proofs.lemmas.List.Edits.{sets};
 ghost use Rattle.outputs.specs.Put.{past};

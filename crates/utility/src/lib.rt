@@ -1,4 +1,6 @@
 // Utilities: payoffs that have passed the finite check, compared as their order keys are.
+#![tactic(auto)]
+
 ghost use Rattle.std.specs.Prelude.{◌≡◌, T};
 ghost use Rattle.game.specs.Finite.{all};
 ghost use Rattle.payoff_order.specs.Order.{finite, greater, equal};

@@ -1,5 +1,7 @@
 // A view of a table, which holds the payoffs by reference. No function that has one is covered by the prover's own walk, so each is thin: it
 // takes the view apart, and leaves the rest to a function with plain parameters (`view_fields`).
+#![tactic(auto)]
+
 ghost use Rattle.std.specs.Prelude.{◌≡◌, length};
 ghost use Rattle.game.specs.Game.{strategy as named};
 ghost use Rattle.refusal.specs.Told.{told_bool, told_listing, told_unit, told_usize, unless, unless_refused};

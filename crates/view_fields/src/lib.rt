@@ -1,5 +1,7 @@
 // The calls on a view's fields, the payoffs, P and eight counts, whatever they are: each is the plain call on the payoffs and the first P counts.
 // P over 8 gives 2 before any count is read.
+#![tactic(auto)]
+
 ghost use Rattle.std.specs.Prelude.{◌≡◌, length};
 ghost use Rattle.game.specs.Game.{strategy as named};
 ghost use Rattle.refusal.specs.Told.{told_bool, told_listing, told_unit, told_usize, unless, unless_refused};

@@ -1,5 +1,7 @@
 // Files of words, each of a kind and with a payload, as the deposit file is one: what a reader of such a file asks of each word.
 // Any bytes and any places may be handed in, but for `part`. A place is the number of words before it.
+#![tactic(auto)]
+
 ghost use Rattle.std.specs.Prelude.{◌≡◌, ◌+◌, ◌*◌, ◌≤◌, ◌<◌, length};
 ghost use Rattle.std.proofs.Math.Option.{none};
 ghost use Rattle.refusal.specs.Told.{told_unit, told_usize, unless};
