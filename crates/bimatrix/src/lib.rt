@@ -7,7 +7,7 @@ ghost use Rattle.bimatrix.specs.Matrices.{in_order, swap_rows, swap_columns, bot
 ghost use Rattle.bimatrix.specs.Keys.{different, strictly_ranked, base4, key, least_key};
 
 // One player's numbers at the four profiles: at01 is that of row 0, player 0's strategy, and column 1, player 1's.
-#[derive(Drop)]
+#[derive(Clone, Copy)]
 pub struct Matrix {
     pub at00: u8,
     pub at01: u8,
@@ -63,7 +63,7 @@ impl Matrix {
 }
 
 // The matrices of both players: player 0's, and player 1's.
-#[derive(Drop)]
+#[derive(Clone, Copy)]
 pub struct Bimatrix {
     pub first: Matrix,
     pub second: Matrix,

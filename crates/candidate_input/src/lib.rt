@@ -12,7 +12,7 @@ pub const MAX_ACTIONS: usize = 64;
 
 // What a minimax candidate claims: the value of the game to player 1, and how far from it, and from a distribution, it may be.
 #[repr(C)]
-#[derive(Drop)]
+#[derive(Clone, Copy)]
 pub struct Claim {
     pub value: f64,
     pub tolerance: f64,

@@ -15,7 +15,7 @@ use bimatrix::{Bimatrix, Matrix};
 use refusal::{NormalFormError, UsizeOption, UsizeResult};
 
 // Rust's `Result<Option<usize>, NormalFormError>`: a number of the catalogue or none, or the refusal.
-#[derive(Drop)]
+#[derive(Clone, Copy)]
 pub enum NumberResult {
     Ok(UsizeOption),
     Err(NormalFormError),

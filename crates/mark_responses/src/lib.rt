@@ -70,7 +70,7 @@ fn reaches(a: f64, b: f64) -> u8
 }
 
 // What `greatest` finds.
-#[derive(Drop)]
+#[derive(Clone, Copy)]
 struct Tops {
     one: f64,
     other: f64,

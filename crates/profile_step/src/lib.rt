@@ -7,7 +7,7 @@ ghost use Rattle.profile_step.specs.Step.{step};
 use table::MAX_PLAYERS;
 
 // Whether there was a next profile, and the choices after the step.
-#[derive(Drop)]
+#[derive(Clone, Copy)]
 pub struct Advanced {
     pub more: bool,
     pub profile: [usize; MAX_PLAYERS],

@@ -8,7 +8,7 @@ ghost use Rattle.refusal.specs.Refusal.{number_of};
 
 // Why a call refuses. Refusal is document 01's term. The names are those of the Rust's NormalFormError where it has the error;
 // a refusal tells its number alone, so no variant holds a value.
-#[derive(Drop)]
+#[derive(Clone, Copy)]
 pub enum NormalFormError {
     NoPlayers,
     TooManyPlayers,
@@ -63,42 +63,42 @@ impl NormalFormError {
 }
 
 // Rust's `Result<(), NormalFormError>`.
-#[derive(Drop)]
+#[derive(Clone, Copy)]
 pub enum UnitResult {
     Ok,
     Err(NormalFormError),
 }
 
 // Rust's `Result<usize, NormalFormError>`.
-#[derive(Drop)]
+#[derive(Clone, Copy)]
 pub enum UsizeResult {
     Ok(usize),
     Err(NormalFormError),
 }
 
 // Rust's `Result<bool, NormalFormError>`.
-#[derive(Drop)]
+#[derive(Clone, Copy)]
 pub enum BoolResult {
     Ok(bool),
     Err(NormalFormError),
 }
 
 // What a listing tells: how many entries there are in all, and how many of them, from the first on, are written.
-#[derive(Drop)]
+#[derive(Clone, Copy)]
 pub struct Listed {
     pub total: usize,
     pub written: usize,
 }
 
 // Rust's `Result<Listed, NormalFormError>`.
-#[derive(Drop)]
+#[derive(Clone, Copy)]
 pub enum ListingResult {
     Ok(Listed),
     Err(NormalFormError),
 }
 
 // Rust's `Option<usize>`.
-#[derive(Drop)]
+#[derive(Clone, Copy)]
 pub enum UsizeOption {
     None,
     Some(usize),

@@ -13,7 +13,7 @@ use report_text::MAX_REPORT_BYTES;
 const ROOM: usize = MAX_FILE_BYTES + 1;
 
 // What was read: so many bytes, and whether a read failed after them.
-#[derive(Drop)]
+#[derive(Clone, Copy)]
 struct Input {
     size: usize,
     failed: bool,

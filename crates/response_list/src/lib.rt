@@ -14,21 +14,21 @@ use utility::Utility;
 
 // A best response and its payoff, as in the Rust.
 #[repr(C)]
-#[derive(Drop)]
+#[derive(Clone, Copy)]
 pub struct BestResponse {
     pub strategy: usize,
     pub utility: Utility,
 }
 
 // The answer of a call beside a list that is handed back by value.
-#[derive(Drop)]
+#[derive(Clone, Copy)]
 pub struct ResponseList {
     pub answer: UsizeResult,
     pub records: [BestResponse; MAX_STRATEGIES],
 }
 
 // The answer for a list, and the records to be written into it: the first `number`, none beside a refusal.
-#[derive(Drop)]
+#[derive(Clone, Copy)]
 pub struct Found {
     pub answer: UsizeResult,
     pub number: usize,

@@ -24,7 +24,7 @@ use survivors::Survivors;
 use table::MAX_STRATEGIES;
 
 // The answer to a strike, or to a list of them, beside the survivors.
-#[derive(Drop)]
+#[derive(Clone, Copy)]
 pub struct StrikeResult {
     pub answer: UsizeResult,
     pub survivors: Survivors,

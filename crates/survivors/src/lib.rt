@@ -15,7 +15,7 @@ use table::{MAX_MARKS, MAX_PLAYERS, MAX_STRATEGIES, StrategySpace};
 
 // The survivors of a table, document 01's term: P, the counts, and a mark for each strategy that survives, as many places to a player as
 // it may have strategies. As `fresh` and `strike` make them, a player from P on has count 0 and no mark.
-#[derive(Drop)]
+#[derive(Clone, Copy)]
 pub struct Survivors {
     pub players: usize,
     pub counts: [usize; MAX_PLAYERS],
@@ -23,7 +23,7 @@ pub struct Survivors {
 }
 
 // Whether a table was accepted, beside its fresh survivors.
-#[derive(Drop)]
+#[derive(Clone, Copy)]
 pub struct FreshResult {
     pub answer: UnitResult,
     pub survivors: Survivors,

@@ -15,14 +15,14 @@ use refusal::UsizeResult;
 use survivors::Survivors;
 
 // The place after the strikes that were written, beside the survivors.
-#[derive(Drop)]
+#[derive(Clone, Copy)]
 pub struct SweepsResult {
     pub end: usize,
     pub survivors: Survivors,
 }
 
 // Where a list of strike calls has come to: the place after the strikes that were written, whether any call was accepted, and the survivors.
-#[derive(Drop)]
+#[derive(Clone, Copy)]
 struct Progress {
     end: usize,
     any: bool,

@@ -25,7 +25,7 @@ pub const MAX_CELLS: usize = 65536;
 pub const MAX_MARKS: usize = MAX_PLAYERS * MAX_STRATEGIES;
 
 // The players of a table and how many strategies each has. As `from_counts` makes it, a place from `players` on holds 0.
-#[derive(Drop)]
+#[derive(Clone, Copy)]
 pub struct StrategySpace {
     pub players: usize,
     pub counts: [usize; MAX_PLAYERS],
@@ -33,7 +33,7 @@ pub struct StrategySpace {
 
 // Rust's `Result<StrategySpace, NormalFormError>`: the answer beside the space, since an enum holds no array.
 // Beside a refusal the space has no players and no strategies.
-#[derive(Drop)]
+#[derive(Clone, Copy)]
 pub struct SpaceResult {
     pub answer: UnitResult,
     pub space: StrategySpace,

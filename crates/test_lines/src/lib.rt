@@ -21,7 +21,7 @@ pub const UNREADABLE: usize = usize::MAX;
 const NAN_BITS: u64 = 0x7ff8000000000000;
 
 // A word that was read, where it was, and the place after it.
-#[derive(Drop)]
+#[derive(Clone, Copy)]
 struct Read {
     word: u64,
     at: usize,
@@ -29,7 +29,7 @@ struct Read {
 }
 
 // A word with one more digit, where it has room.
-#[derive(Drop)]
+#[derive(Clone, Copy)]
 enum Pushed {
     Word(u64),
     Over,
@@ -37,7 +37,7 @@ enum Pushed {
 
 // How far a list is read: the next place, the elements so far, and the group that is open, with how
 // often it comes and its first element.
-#[derive(Drop)]
+#[derive(Clone, Copy)]
 struct Reading {
     at: usize,
     length: usize,
@@ -591,7 +591,7 @@ fn read_list(s: &[u8], floats: bool, out: &mut [usize]) -> usize {
 // A line's call, by its place in a program's table of calls, or UNREADABLE; its single numbers and
 // floats; and the fields with the lists for the program's buffers, a to e for numbers and x to z
 // for floats.
-#[derive(Drop)]
+#[derive(Clone, Copy)]
 pub struct Case {
     pub call: usize,
     pub first: usize,
@@ -869,7 +869,7 @@ pub fn first_bytes(bytes: &mut [u8], n: usize) -> &mut [u8]
 
 // The lines of standard input: where the line stands in the buffer, how far the buffer is filled,
 // whether the input may have more, whether the line is a remark, and whether every line was taken.
-#[derive(Drop)]
+#[derive(Clone, Copy)]
 pub struct Input {
     pub from: usize,
     pub end: usize,

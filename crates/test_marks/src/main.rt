@@ -19,7 +19,7 @@ use test_print::{output, output_floats, text, told_listing, told_usize};
 // ---- one call after the other
 
 // The answers of the sweep, of the listing by its marks, and of the plain listing.
-#[derive(Drop)]
+#[derive(Clone, Copy)]
 struct Marked {
     swept: UsizeResult,
     listed: ListingResult,

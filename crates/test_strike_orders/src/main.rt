@@ -72,7 +72,7 @@ fn one_more(n: usize) -> usize {
 // ---- tables
 
 // The number that the generator came to, and how many cells were drawn.
-#[derive(Drop)]
+#[derive(Clone, Copy)]
 struct Drawn {
     x: u64,
     cells: usize,
@@ -336,7 +336,7 @@ fn listings(
 
 // Of a table, survivors and other survivors: the strategies; the survivors' marks, and the players
 // that have a struck strategy; and whether both survivors are the same.
-#[derive(Drop)]
+#[derive(Clone, Copy)]
 struct Found {
     strategies: usize,
     marks: usize,
@@ -382,7 +382,7 @@ fn survey(counts: &[usize], a: Survivors, b: Survivors) -> Found {
 // How far an order has come: the generator's number, the last strike and what it answered, how many
 // were accepted, the survivors, the place of the sweep, how many strikes of the sweep were refused
 // since the last accepted strike, and whether the listings agreed.
-#[derive(Drop)]
+#[derive(Clone, Copy)]
 struct Progress {
     x: u64,
     player: usize,

@@ -33,7 +33,7 @@ use test_print::{floats, number, numbers, text, told_listing, told_usize};
 const ROOM: usize = 24;
 
 // How many strikes were accepted, and the survivors that the last one handed back.
-#[derive(Drop)]
+#[derive(Clone, Copy)]
 struct Struck {
     accepted: usize,
     survivors: Survivors,
@@ -41,7 +41,7 @@ struct Struck {
 
 // How many strikes were accepted, the survivors, and the answers of the two listings: over the
 // survivors, and of the whole table.
-#[derive(Drop)]
+#[derive(Clone, Copy)]
 struct Listings {
     accepted: usize,
     survivors: Survivors,
@@ -50,7 +50,7 @@ struct Listings {
 }
 
 // The answers to a strike and to the same one again.
-#[derive(Drop)]
+#[derive(Clone, Copy)]
 struct Twice {
     first: UsizeResult,
     second: UsizeResult,

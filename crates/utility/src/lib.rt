@@ -11,11 +11,11 @@ use refusal::NormalFormError;
 // A payoff that has passed the finite check, by a test or by a proof. The field is private, so that a raw float can't enter a comparison unchecked.
 // In C it is a double.
 #[repr(C)]
-#[derive(Drop)]
+#[derive(Clone, Copy)]
 pub struct Utility(f64);
 
 // Rust's `Result<Utility, NormalFormError>`.
-#[derive(Drop)]
+#[derive(Clone, Copy)]
 pub enum UtilityResult {
     Ok(Utility),
     Err(NormalFormError),

@@ -23,7 +23,7 @@ use table::MAX_PLAYERS;
 
 // A table that holds its payoffs by reference, beside P and the counts. Its fields are whatever its holder put there: each call checks them as
 // the plain call does, on the payoffs and the first P of the counts.
-#[derive(Drop)]
+#[derive(Clone, Copy)]
 pub struct PayoffMatrix<'a> {
     pub payoffs: &'a [f64],
     pub players: usize,
@@ -32,7 +32,7 @@ pub struct PayoffMatrix<'a> {
 
 // Rust's `Result<PayoffMatrix, NormalFormError>`: the answer beside the view, since an enum holds no reference.
 // Beside a refusal the view has the payoffs, no players and no strategies, so that every call on it gives 1.
-#[derive(Drop)]
+#[derive(Clone, Copy)]
 pub struct MatrixResult<'a> {
     pub answer: UnitResult,
     pub matrix: PayoffMatrix<'a>,
