@@ -1,4 +1,4 @@
-/* Sigvanyor: games in normal form. `rt staticlib exports` makes the archive to link with,
+/* Sigvanyor: games in normal form. `tools/build exports` makes the archive to link with,
  * target/staticlib/libexports.a. It is for x86-64, where size_t has 64 bits.
  *
  * A table is two slices: `counts`, how many strategies each of the P players has, and `payoffs`, P

@@ -1,0 +1,106 @@
+-- `table::payoff` meets its contract: the refusals of the table, the player and the profile come in this order, and else the cell is read,
+-- which lies within the payoffs and holds a finite value. Assumes nothing.
+use mathlib.Core.Path.{◌≡◌, ap, ◌∙◌}
+use mathlib.Core.List.{List}
+use mathlib.Core.Option.{none}
+use Prim.Native.Nat.{ℕ, ◌+◌, ◌*◌, ◌<◌, ◌≤◌}
+use native.Mathlib.Omega.{arith}
+use lib.ListN.{length, get_or}
+use lib.Ieee.{Float, nan}
+use Rattle.refusal.specs.Told.{values}
+use Rattle.refusal.proofs.Told.{told_values, refused_again, refused_first}
+use Rattle.utility.proofs.Made.{finite_told}
+use Rattle.payoff_tables.specs.Limits.{max_cells}
+use Rattle.payoff_tables.specs.Table.{offset, cell, payoff_at}
+use Rattle.payoff_tables.specs.Checks.{table_refusal, profile_refusal}
+use Rattle.payoff_tables.specs.Meaning.{Table}
+use Rattle.payoff_tables.proofs.Checks.{table_counts, table_law, player_law, no_player, profile_law}
+use Rattle.payoff_tables.proofs.Offsets.{cell_below}
+use Rattle.table.proofs.payoff.Goals as goal
+use Rattle.table.proofs.payoff.Goals.{In-Ok, In-Ok-profile_offset}
+
+-- the arm where the table has no refusal
+module _ (c : In-Ok) where
+  abbrev counts : List ℕ
+  counts = c.args.counts.now
+
+  abbrev payoffs : List Float
+  payoffs = c.args.payoffs.now
+
+  checked : table_refusal counts payoffs ≡ none
+  checked = (told_values _ _ _ c.in-Ok.ensures).0
+
+  table : Table counts payoffs
+  table = (table_law counts payoffs).0 checked
+
+pub returns-then-counts-player : goal.returns-then-counts-player
+returns-then-counts-player c = rw (checked (goal.at.returns-then-counts-player c).In-Ok, no_player (counts (goal.at.returns-then-counts-player c).In-Ok) _ c.if-counts-player.true)
+
+pub profile_offset-requires : goal.profile_offset-requires
+profile_offset-requires c = table_counts _ _ (checked (goal.at.profile_offset-requires c).In-Ok)
+
+-- the arm where the profile has none either
+module _ (c : In-Ok-profile_offset) where
+  abbrev cs : List ℕ
+  cs = c.args.counts.now
+
+  abbrev xs : List Float
+  xs = c.args.payoffs.now
+
+  abbrev profile : List ℕ
+  profile = c.args.profile.now
+
+  abbrev player : ℕ
+  player = c.args.player
+
+  abbrev place : ℕ
+  place = c.in-Ok-profile_offset.at * length cs + player
+
+  checks : table_refusal cs xs ≡ none
+  checks = (told_values _ _ _ c.in-Ok.ensures).0
+
+  full_table : Table cs xs
+  full_table = (table_law cs xs).0 checks
+
+  told : (profile_refusal cs profile ≡ none) × (c.in-Ok-profile_offset.at ≡ offset cs profile)
+  told = told_values _ _ _ c.in-Ok-profile_offset.ensures
+
+  mine : player < length cs
+  mine = c.if-counts-player.false
+
+  here : place ≡ cell cs profile player
+  here = ap (λ (n : ℕ). n * length cs + player) told.1
+
+  within : (place < length xs) × (length xs ≤ max_cells)
+  within =
+      let full = full_table.full in (rw (here, full) (cell_below player ((profile_law cs profile).0 told.0) mine), rw full full_table.shape.room)
+
+pub overflow_mul-at : goal.overflow_mul-at
+overflow_mul-at c = omega (arith, within (goal.at.overflow_mul-at c).In-Ok-profile_offset)
+
+pub overflow_add-at : goal.overflow_add-at
+overflow_add-at c = omega (arith, within (goal.at.overflow_add-at c).In-Ok-profile_offset)
+
+pub offset_bounds-payoffs-at : goal.offset_bounds-payoffs-at
+offset_bounds-payoffs-at c = omega (arith, within (goal.at.offset_bounds-payoffs-at c).In-Ok-profile_offset)
+
+pub bounds-payoffs-at : goal.bounds-payoffs-at
+bounds-payoffs-at c = (within (goal.at.bounds-payoffs-at c).In-Ok-profile_offset).0
+
+pub returns-in-Err : goal.returns-in-Err
+returns-in-Err c =
+    refused_first (table_refusal c.args.counts.now c.args.payoffs.now) _ _ _ c.in-Err.ensures _
+
+pub returns-in-Err-profile_offset : goal.returns-in-Err-profile_offset
+returns-in-Err-profile_offset c =
+    let w = (goal.at.returns-in-Err-profile_offset c).In-Ok in
+    rw (checked w, (player_law (counts w) _).1 c.if-counts-player.false)
+    (refused_again (profile_refusal (counts w) c.args.profile.now) _ _ _ c.in-Err-profile_offset.ensures)
+
+pub returns-in-Ok-profile_offset : goal.returns-in-Ok-profile_offset
+unfolding payoff_at
+returns-in-Ok-profile_offset c =
+    let w = (goal.at.returns-in-Ok-profile_offset c).In-Ok-profile_offset in
+    let fits = (full_table w).finites _ (within w).0 in
+    rw (checks w, (player_law (cs w) (player w)).1 (mine w), (told w).0)
+    (c.new.ensures ∙ finite_told _ fits ∙ ap (λ (n : ℕ). values (get_or (xs w) n nan)) (here w))
