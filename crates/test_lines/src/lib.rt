@@ -6,8 +6,12 @@ ghost use Rattle.std.specs.Prelude.{◌≡◌, false, length, take, from_bits, s
 ghost use Rattle.std.specs.Float.{binary64};
 ghost use Rattle.written_lists.specs.Outputs.{over};
 
-use libc::{STDIN_FILENO, STDOUT_FILENO};
 use table::{MAX_MARKS, MAX_PLAYERS, MAX_STRATEGIES};
+
+// Standard input and standard output.
+const STDIN: i32 = 0;
+
+const STDOUT: i32 = 1;
 
 // The most bytes of a line, its end included, and the most elements of a list.
 pub const LINE: usize = 65536;
@@ -917,7 +921,7 @@ fn fill(buffer: &mut [u8], kept: usize) -> usize {
     if buffer.len() < kept {
         return kept;
     }
-    let n = io::read_full(STDIN_FILENO, &mut buffer[kept..]);
+    let n = io::read_full(STDIN, &mut buffer[kept..]);
     std::num::wrapping_add_usize(kept, n)
 }
 
@@ -927,7 +931,7 @@ fn line_from(buffer: &[u8], from: usize, to: usize, more: bool) -> Input {
     let end = find(part(buffer, 0, to), from, b'\n');
     let is_whole = end < to;
     if !is_whole & more {
-        io::write_all(STDOUT_FILENO, b"a line that is too long\n");
+        io::write_all(STDOUT, b"a line that is too long\n");
     }
     Input {
         from,
