@@ -24,6 +24,8 @@ FACTS = {"two": "Two"}
 FACT_FILES = {"two": "crates/mark_responses/proofs/Rows.antt"}
 # Lemmas whose plain name the toolchain's library has.
 TAKEN = {"flat-map": "flat_map_lem", "slice-val": "slice_val_lem"}
+# A name that the toolchain's script took apart: its word getD is now get_or.
+MENDED = {"get_d_map": "get_or_map"}
 
 
 def new_name(name):
@@ -31,6 +33,8 @@ def new_name(name):
         return FACTS[name]
     if name in TAKEN:
         return TAKEN[name]
+    if name in MENDED:
+        return MENDED[name]
     if not name[0].islower():
         return name
     name = re.sub(r"^getD(?=-|$)", "get_or", name)

@@ -19,7 +19,7 @@ use Rattle.payoff_tables.specs.Checks.{table_refusal, profile_refusal}
 use Rattle.payoff_tables.specs.Answers.{profile_payoffs, part_first}
 use Rattle.table.specs.Space.{space_of, space_unless}
 use Rattle.table.specs.declared.SpaceResult.{SpaceResult}
-use Rattle.payoff_tables.proofs.Offsets.{get_d_map}
+use Rattle.payoff_tables.proofs.Offsets.{get_or_map}
 use Rattle.survivors.specs.declared.Survivors.{Survivors}
 use Rattle.c_answers.specs.Status.{output, beside, some_byte, or_zero, part_start, part_length, survivors_of, mark_bytes}
 
@@ -93,7 +93,7 @@ module _ {A B : Type 0} (f : A → B) (xs : List A) (a : A) (b : B) (n : ℕ) wh
   pub made_all : (i : ℕ) (out : List B) → length xs ≡ n → n ≤ i → Made i out → out ≡ map f xs
   made_all i out e h m =
       ext_get_or b out (map f xs) (m.size ∙ sym (length-map xs f ∙ e)) (λ j k.
-      m.done j (omega (arith, m.size)) ∙ sym (get_d_map f xs j a b (omega (arith, m.size, e))))
+      m.done j (omega (arith, m.size)) ∙ sym (get_or_map f xs j a b (omega (arith, m.size, e))))
 
 -- ---- survivors
 

@@ -8,7 +8,7 @@ use lib.ListN.{length, get_or, length-map, get_or-append}
 use lib.Seq.{ext_get_or, get_or-append-add}
 use lib.Ieee.{Float, nan}
 use Rattle.game.proofs.Finite.{le_or_lt}
-use Rattle.payoff_tables.proofs.Offsets.{get_d_map, get_or_flat_map}
+use Rattle.payoff_tables.proofs.Offsets.{get_or_map, get_or_flat_map}
 use Rattle.file_words.specs.Words.{word, closed}
 use Rattle.file_words.proofs.Words.{closed_length, closed_before, closed_last}
 use Rattle.deposit_format.specs.Deposit.{payoff_words}
@@ -30,7 +30,7 @@ module _ (counts : List ℕ) (payoffs : List Float) where
   body_count p h =
       past (1 + p) p (omega arith)
       ∙ get_or-append cs ps 0 p (omega (arith, h, length-map counts (word 1)))
-      ∙ get_d_map (word 1) counts p 0 0 h
+      ∙ get_or_map (word 1) counts p 0 0 h
 
   body_cell : (i j : ℕ) → i < length payoffs → j < 3
       → get_or (body counts payoffs) (1 + length counts + 3 * i + j) 0 ≡ get_or (payoff_words (get_or payoffs i nan)) j 0

@@ -17,7 +17,7 @@ use Rattle.refusal.proofs.Refusal.{each_none}
 use Rattle.payoff_tables.specs.Limits.{max_players, max_cells}
 use Rattle.payoff_tables.specs.Table.{cells}
 use Rattle.payoff_tables.specs.Checks.{count_refusal, counts_refusal}
-use Rattle.payoff_tables.proofs.Offsets.{get_d_map, get_or_below}
+use Rattle.payoff_tables.proofs.Offsets.{get_or_map, get_or_below}
 use Rattle.table.proofs.Space.{Filled}
 use Rattle.file_words.specs.Words.{payload_at}
 use Rattle.deposit_format.specs.Deposit.{players_in, counts_in, cell_place, payoff_in, payoffs_in}
@@ -30,7 +30,7 @@ module _ (ws : List ℕ) where
   pub counts_at : (p : ℕ) → p < players_in ws → get_or (counts_in ws) p 0 ≡ payload_at ws (1 + p)
   unfolding counts_in
   counts_at p h =
-      get_d_map (λ p. payload_at ws (1 + p)) (below (players_in ws)) p 0 0 (rw length_below h)
+      get_or_map (λ p. payload_at ws (1 + p)) (below (players_in ws)) p 0 0 (rw length_below h)
       ∙ ap (λ (q : ℕ). payload_at ws (1 + q)) (get_or_below (players_in ws) p h)
 
   pub payoffs_length : length (payoffs_in ws) ≡ cells (counts_in ws)
@@ -40,7 +40,7 @@ module _ (ws : List ℕ) where
   pub payoffs_at : (i : ℕ) → i < cells (counts_in ws) → get_or (payoffs_in ws) i nan ≡ payoff_in ws (cell_place ws i)
   unfolding payoffs_in
   payoffs_at i h =
-      get_d_map (λ i. payoff_in ws (cell_place ws i)) (below (cells (counts_in ws))) i 0 nan (rw length_below h)
+      get_or_map (λ i. payoff_in ws (cell_place ws i)) (below (cells (counts_in ws))) i 0 nan (rw length_below h)
       ∙ ap (λ (j : ℕ). payoff_in ws (cell_place ws j)) (get_or_below (cells (counts_in ws)) i h)
 
 -- as many places of a list as there are counts hold the counts

@@ -11,7 +11,7 @@ use lib.ListN.{length, get_or, length-append, length-map, get_or-append, get_or-
 use lib.Seq.{ext_get_or, get_or-append_seam}
 use Rattle.game.specs.Finite.{below}
 use Rattle.game.proofs.Finite.{length_below, length_flat_map, sum_equal}
-use Rattle.payoff_tables.proofs.Offsets.{get_d_map, get_or_flat_map, get_or_below}
+use Rattle.payoff_tables.proofs.Offsets.{get_or_map, get_or_flat_map, get_or_below}
 use Rattle.file_words.specs.Words.{word, kind_of, payload_of, payload_at, word_bytes, bytes_of, closed, word_at, words_of, Bytes}
 
 -- ---- a word's kind and payload
@@ -56,7 +56,7 @@ words_length bytes = length-map (below (length bytes / 4)) (word_at bytes) ∙ l
 pub words_at : (bytes : List ℕ) (i : ℕ) → i < length bytes / 4 → get_or (words_of bytes) i 0 ≡ word_at bytes i
 unfolding words_of
 words_at bytes i h =
-    get_d_map (word_at bytes) (below (length bytes / 4)) i 0 0 (rw length_below h) ∙ ap (word_at bytes) (get_or_below (length bytes / 4) i h)
+    get_or_map (word_at bytes) (below (length bytes / 4)) i 0 0 (rw length_below h) ∙ ap (word_at bytes) (get_or_below (length bytes / 4) i h)
 
 -- the payload of the i-th word, and of none
 pub payload_here : (bytes : List ℕ) (i : ℕ) → i < length bytes / 4 → word_at bytes i % 2 ^ 30 ≡ payload_at (words_of bytes) i

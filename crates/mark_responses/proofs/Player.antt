@@ -21,7 +21,7 @@ use Rattle.refusal.specs.Told.{byte_of}
 use Rattle.payoff_tables.specs.Limits.{max_players, max_strategies, max_cells}
 use Rattle.payoff_tables.specs.Table.{stride, cell_rank, table_game}
 use Rattle.payoff_tables.specs.Meaning.{Table}
-use Rattle.payoff_tables.proofs.Offsets.{product_split, product_drop, drop_at_most, drop_positive, take_positive, take_at_most, get_d_map, get_or_mem, stride_positive, walk_at_most}
+use Rattle.payoff_tables.proofs.Offsets.{product_split, product_drop, drop_at_most, drop_positive, take_positive, take_at_most, get_or_map, get_or_mem, stride_positive, walk_at_most}
 use Rattle.payoff_tables.proofs.Walk.{shape_some, shape_room, step_room}
 use Rattle.marks.specs.Marks.{marked}
 use Rattle.strategy_row.specs.Row.{row_best}
@@ -53,13 +53,13 @@ module _ (survivors : List Bool) (place count : ℕ) where
         let l : i < length (marked_of survivors place count) = omega (arith, steps_length) in
         let t : ℕ = get_or (marked_of survivors place count) i 0 in
         let (a, b) = (marked_mem t).0 (get_or_mem (marked_of survivors place count) i 0 l) in
-        (t, a, b, ap (λ (xs : List ℕ). get_or xs i 0) are ∙ get_d_map (λ t. t * step) (marked_of survivors place count) i 0 0 l)
+        (t, a, b, ap (λ (xs : List ℕ). get_or xs i 0) are ∙ get_or_map (λ t. t * step) (marked_of survivors place count) i 0 0 l)
 
     -- and each marked strategy has one.
     step_at : (t : ℕ) → t < count → T (get_or survivors (place + t) false) → (i : ℕ) × (i < length steps) × (get_or steps i 0 ≡ t * step)
     step_at t a b =
         let (i, l, e) = mem_at (marked_of survivors place count) t 0 ((marked_mem t).1 (a, b)) in
-        (i, omega (arith, steps_length), ap (λ (xs : List ℕ). get_or xs i 0) are ∙ get_d_map (λ t. t * step) (marked_of survivors place count) i 0 0 l ∙ ap (λ (u : ℕ). u * step) e)
+        (i, omega (arith, steps_length), ap (λ (xs : List ℕ). get_or xs i 0) are ∙ get_or_map (λ t. t * step) (marked_of survivors place count) i 0 0 l ∙ ap (λ (u : ℕ). u * step) e)
 
     -- No cell exceeds that of t exactly where t is a best one of the row.
     row_top_best : (start i t : ℕ) → i < length steps → t < count → T (get_or survivors (place + t) false) → get_or steps i 0 ≡ t * step

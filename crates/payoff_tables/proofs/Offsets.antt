@@ -151,10 +151,10 @@ offset_choice {cs = c ∷ cs} {x = s ∷ x} (suc p) r l =
 -- ---- the k-th profile
 
 module _ {A B : Type 0} where
-  pub get_d_map : (f : A → B) (xs : List A) (i : ℕ) (a : A) (b : B) → i < length xs → get_or (map f xs) i b ≡ f (get_or xs i a)
-  get_d_map f [] i a b h = absurd (not-suc-le-zero h)
-  get_d_map f (x ∷ xs) zero a b h = refl
-  get_d_map f (x ∷ xs) (suc i) a b h = get_d_map f xs i a b (le_of_suc-le-suc h)
+  pub get_or_map : (f : A → B) (xs : List A) (i : ℕ) (a : A) (b : B) → i < length xs → get_or (map f xs) i b ≡ f (get_or xs i a)
+  get_or_map f [] i a b h = absurd (not-suc-le-zero h)
+  get_or_map f (x ∷ xs) zero a b h = refl
+  get_or_map f (x ∷ xs) (suc i) a b h = get_or_map f xs i a b (le_of_suc-le-suc h)
 
   pub get_or_flat_map : (f : A → List B) (n : ℕ) → ((a : A) → length (f a) ≡ n) → (xs : List A) (i j : ℕ) (a : A) (b : B)
       → i < length xs → j < n → get_or (flat_map f xs) (i * n + j) b ≡ get_or (f (get_or xs i a)) j b
@@ -169,7 +169,7 @@ pub get_or_below : (n i : ℕ) → i < n → get_or (below n) i 0 ≡ i
 get_or_below zero i h = absurd (not-suc-le-zero h)
 get_or_below (suc n) zero h = refl
 get_or_below (suc n) (suc i) h =
-    get_d_map suc (below n) i 0 0 (rw length_below (le_of_suc-le-suc h)) ∙ ap suc (get_or_below n i (le_of_suc-le-suc h))
+    get_or_map suc (below n) i 0 0 (rw length_below (le_of_suc-le-suc h)) ∙ ap suc (get_or_below n i (le_of_suc-le-suc h))
 
 pub get_or_mem : {A : Type 0} (xs : List A) (i : ℕ) (d : A) → i < length xs → get_or xs i d ∈ xs
 get_or_mem [] i d h = absurd (not-suc-le-zero h)
@@ -190,7 +190,7 @@ unfolding profiles
 nth_cons c s j cs h k =
     get_or_flat_map (λ s. map (λ x. s ∷ x) (profiles cs)) (product cs) (λ s. length-map (profiles cs) (λ x. s ∷ x) ∙ length_profiles cs)
     (below c) s j 0 [] (rw length_below h) k
-    ∙ get_d_map (λ x. get_or (below c) s 0 ∷ x) (profiles cs) j [] [] (rw length_profiles k)
+    ∙ get_or_map (λ x. get_or (below c) s 0 ∷ x) (profiles cs) j [] [] (rw length_profiles k)
     ∙ ap {B = List ℕ} (λ t. t ∷ get_or (profiles cs) j []) (get_or_below c s h)
 
 -- Every place below c × n is s × n + j for an s below c and a j below n.

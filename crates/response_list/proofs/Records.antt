@@ -24,7 +24,7 @@ use Rattle.utility.specs.declared.Utility.{Utility}
 use Rattle.payoff_tables.specs.Limits.{max_strategies}
 use Rattle.payoff_tables.specs.Table.{payoff_at, table_game}
 use Rattle.payoff_tables.specs.Checks.{table_refusal, player_refusal}
-use Rattle.payoff_tables.proofs.Offsets.{cell_below, get_d_map, get_or_mem}
+use Rattle.payoff_tables.proofs.Offsets.{cell_below, get_or_map, get_or_mem}
 use Rattle.responses.specs.Answers.{against, opponents_refusal, responses, response_utilities, responses_answer, responses_written}
 use Rattle.responses.proofs.Opponents.{Accepted, accepted_law, accepted_profile}
 use Rattle.best_response.proofs.Responses.{responses_below}
@@ -165,7 +165,7 @@ module _ (counts : List ℕ) (payoffs : List Float) (p : ℕ) (opponents : List 
       utility_at =
           ap (λ (xs : List Float). get_or xs i nan) (h.1 ∙ ap (λ (xs : List ℕ). over (map paid xs) old') whole_list)
           ∙ get_or-append (map paid all) _ nan i (rw length-map below_all)
-          ∙ get_d_map paid all i 0 nan below_all
+          ∙ get_or_map paid all i 0 nan below_all
 
       -- its payoff is a payoff of the table, and so finite
       pub utility_finite : T (finite (get_or utilities i nan))
@@ -181,5 +181,5 @@ module _ (counts : List ℕ) (payoffs : List Float) (p : ℕ) (opponents : List 
           → set records i (record { strategy = get_or strategies i 0; utility = v }) ≡ over (take (i + 1) all_records) no_records
       next_record records v e k =
           ap₂ (λ (rs : List BestResponse) (r : BestResponse). set rs i r) e
-          (ap₂ response strategy_at (k ∙ utility_at) ∙ sym (get_d_map (λ s. response s (paid s)) all i 0 (response 0 nan) below_all))
+          (ap₂ response strategy_at (k ∙ utility_at) ∙ sym (get_or_map (λ s. response s (paid s)) all i 0 (response 0 nan) below_all))
           ∙ over_next all_records no_records i (response 0 nan) (rw length-map below_all) (omega (arith, few t.accepted, below_all))

@@ -33,7 +33,7 @@ use Rattle.written_lists.specs.Outputs.{over}
 use Rattle.written_lists.proofs.Outputs.{over_first}
 use Rattle.payoff_tables.specs.Table.{cells, offset, cell, table_game}
 use Rattle.payoff_tables.specs.Checks.{table_refusal}
-use Rattle.payoff_tables.proofs.Offsets.{get_d_map, get_or_flat_map, get_or_below, offset_below, nth_offset}
+use Rattle.payoff_tables.proofs.Offsets.{get_or_map, get_or_flat_map, get_or_below, offset_below, nth_offset}
 use Rattle.response_marks.specs.Marks.{settled, profile_marks, response_marks, ones, all_marked, marked_profiles}
 use Rattle.response_marks.specs.Answers.{table_marks, marks_refusal, marks_answer, marks_written}
 
@@ -64,7 +64,7 @@ module _ (g : Game) (m : Marks) where
   unfolding response_marks profile_marks
   marks_at k p h l =
       get_or_flat_map (profile_marks g m) (players g) profile_length (profiles g.counts) k p [] 0 (rw length_profiles h) l
-      ∙ get_d_map (λ p. byte_of (settled g m (get_or (profiles g.counts) k []) p)) (below (players g)) p 0 0 (rw length_below l)
+      ∙ get_or_map (λ p. byte_of (settled g m (get_or (profiles g.counts) k []) p)) (below (players g)) p 0 0 (rw length_below l)
       ∙ ap (λ (n : ℕ). byte_of (settled g m (get_or (profiles g.counts) k []) n)) (get_or_below (players g) p l)
 
   module _ (k p : ℕ) (h : k < product g.counts) (l : p < players g) where

@@ -22,7 +22,7 @@ use Rattle.game.proofs.Strikes.{without_law}
 use Rattle.payoff_tables.specs.Limits.{max_players, max_strategies, max_marks}
 use Rattle.payoff_tables.specs.Table.{table_game}
 use Rattle.payoff_tables.specs.Meaning.{Shape}
-use Rattle.payoff_tables.proofs.Offsets.{get_d_map, get_or_flat_map, get_or_below, digits}
+use Rattle.payoff_tables.proofs.Offsets.{get_or_map, get_or_flat_map, get_or_below, digits}
 use Rattle.table.specs.Space.{places, space_of}
 use Rattle.table.proofs.Space.{past, space_count}
 use Rattle.marks.specs.Marks.{mark_place, marked}
@@ -70,7 +70,7 @@ module _ (counts : List ℕ) where
   all_at p s h k =
       get_or_flat_map row max_strategies row_length (below max_players) p s 0 false h k
       ∙ ap (λ (q : ℕ). get_or (row q) s false) (get_or_below max_players p h)
-      ∙ get_d_map (λ s. ltb s (get_or counts p 0)) (below max_strategies) s 0 false (rw length_below k)
+      ∙ get_or_map (λ s. ltb s (get_or counts p 0)) (below max_strategies) s 0 false (rw length_below k)
       ∙ ap (λ (t : ℕ). ltb t (get_or counts p 0)) (get_or_below max_strategies s k)
 
 -- Every place's count is within the limit.

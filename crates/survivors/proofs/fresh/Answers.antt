@@ -4,7 +4,6 @@ use mathlib.Core.List.{List, []}
 use mathlib.Core.Option.{none, some}
 use Prim.Native.Nat.{ℕ}
 use native.Mathlib.Omega.{arith}
-use borrow.Author.Rules.{rules}
 use lib.Ieee.{Float}
 use Rattle.refusal.specs.Refusal.{Refusal}
 use Rattle.payoff_tables.specs.Checks.{table_refusal}
@@ -15,8 +14,7 @@ use Rattle.survivors.specs.declared.Survivors.{Survivors}
 use Rattle.refusal.specs.Told.{unless_refused}
 use Rattle.survivors.specs.Survivors.{all_marks, fresh_of, no_survivors}
 use Rattle.survivors.proofs.Marks.{fresh_is}
-use Rattle.survivors.proofs.fresh.Statement.{statement}
-use Rattle.survivors.proofs.fresh.Tie as tie
+use Rattle.survivors.proofs.fresh.Goals as goal
 
 -- the survivors of the space beside a check's answer
 made : (counts : List ℕ) (payoffs : List Float) (r : Refusal) → table_refusal counts payoffs ≡ r → (w : StrategySpace) → w ≡ space_unless r counts
@@ -28,17 +26,8 @@ made counts payoffs none h w e v (a, b, d) =
 made counts payoffs (some x) h w e v (a, b, d) =
     fresh_is [] v (omega arith) (a ∙ ap (λ w. w.players) e) (b ∙ ap (λ w. w.counts) e) (d ∙ ap (λ w. all_marks w.counts) e)
 
-payoff-matrix-requires : tie.Need-payoff-matrix-requires
-payoff-matrix-requires c κs = search rules
-
-all-marked-requires : tie.Need-all-marked-requires
-all-marked-requires c κs = search rules
-
-returns : tie.Need-returns
+pub returns : goal.returns
 returns c =
-    let a = c.before.before.before.before.before.args in
-    let e = c.before.before.payoff-matrix.ensures in
-    (e.0, made a.counts.now a.payoffs.now _ refl c.before.before.payoff-matrix.result.space e.1 c.all-marked.result c.all-marked.ensures)
-
-pub fresh-spec : {M : Type 1} → statement M
-fresh-spec = tie.close (tie.spec payoff-matrix-requires all-marked-requires returns)
+    let a = c.args in
+    let e = c.payoff_matrix-checked.ensures in
+    record { answer_value = e.answer_value; survivors_value = made a.counts.now a.payoffs.now _ refl c.payoff_matrix-checked.result.space e.space_value c.all_marked.result c.all_marked.ensures }
