@@ -1,5 +1,5 @@
-// Best responses as a list of records, as in the Rust. No function that has a reference to records is covered by the prover's own walk, so the
-// functions that lend the list or write it are thin, and leave the rest to `find_responses`.
+// Best responses as a list of records, as in the Rust. The functions that lend the list or write it are thin, and leave the rest to
+// `find_responses`.
 #![tactic(auto)]
 
 ghost use Rattle.std.specs.Prelude.{◌≡◌, ◌≤◌, length, take};

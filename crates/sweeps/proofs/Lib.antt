@@ -1,2 +1,3 @@
 -- The proofs of this crate that are not of one function.
 pub mod Runs
+pub mod Firsts

@@ -1,5 +1,5 @@
-// A view of a table, which holds the payoffs by reference. No function that has one is covered by the prover's own walk, so each is thin: it
-// takes the view apart, and leaves the rest to a function with plain parameters (`view_fields`).
+// A view of a table, which holds the payoffs by reference. Each function on one is thin: it takes the view apart, and leaves the rest to a
+// function with plain parameters (`view_fields`).
 #![tactic(auto)]
 
 ghost use Rattle.std.specs.Prelude.{◌≡◌, length};
@@ -48,12 +48,13 @@ impl<'a> PayoffMatrix<'a> {
     {
         let checked = table::payoff_matrix(counts, payoffs);
         let space = checked.space;
+        let space_counts = space.counts;
         MatrixResult {
             answer: checked.answer,
             matrix: PayoffMatrix {
                 payoffs: payoffs,
                 players: space.players,
-                counts: space.counts,
+                counts: space_counts,
             },
         }
     }

@@ -1,0 +1,13 @@
+-- The invariant of `sweeps::strike_player`: the calls that name the strategies before s were made.
+use Rattle.std.proofs.Common.{map, ◌-◌, ◌≤◌}
+use Rattle.game.specs.Finite.{below}
+use Rattle.game.specs.Game.{strategy}
+use Rattle.sweeps.specs.Progress.{Runs}
+use Rattle.sweeps.proofs.strike_player.Given as goal
+
+abbrev pub invariant-loop-s : goal.invariant-loop-s
+invariant-loop-s l =
+    (l.s ≤ l.count) × Runs l.counts l.payoffs (map (strategy l.player) (below l.s)) l.initial.progress l.initial.struck l.progress l.struck
+
+abbrev pub decreases-loop-s : goal.decreases-loop-s
+decreases-loop-s l = l.count - l.s
