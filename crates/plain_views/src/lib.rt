@@ -1,5 +1,5 @@
 // The view's calls for callers that hold no view: each makes one of its fields and calls it. No contract here names a view or a lent list of
-// records, so that callers need no walk by hand.
+// records.
 #![tactic(auto)]
 
 ghost use Rattle.std.specs.Prelude.{◌≡◌, length};

@@ -2,21 +2,23 @@
 // a call told and what its outputs hold, each after a space.
 #![tactic(auto)]
 
-use libc::STDOUT_FILENO;
 use refusal::{BoolResult, ListingResult, UnitResult, UsizeResult};
+
+// Standard output.
+const STDOUT: i32 = 1;
 
 // The most elements of an output that is printed whole.
 const WHOLE: usize = 128;
 
 // The bytes as they are.
 pub fn text(bytes: &[u8]) {
-    io::write_all(STDOUT_FILENO, bytes);
+    io::write_all(STDOUT, bytes);
 }
 
 // A space and the number in decimal.
 pub fn number(n: usize) {
     text(b" ");
-    io::print_decimal(STDOUT_FILENO, n as u64);
+    io::print_decimal(STDOUT, n as u64);
 }
 
 // Each number of the list.
@@ -32,7 +34,7 @@ pub fn numbers(list: &[usize]) {
 pub fn bits(x: f64) {
     text(b" ");
     if x == x {
-        io::print_hex(STDOUT_FILENO, f64::to_bits(x), 16);
+        io::print_hex(STDOUT, f64::to_bits(x), 16);
     } else {
         text(b"NaN");
     }
@@ -49,7 +51,7 @@ fn magnitude(x: f64) {
         if x < 18446744073709551616.0 {
             let n = std::num::truncating_f64_to_u64(x);
             if std::num::nearest_u64_to_f64(n) == x {
-                io::print_decimal(STDOUT_FILENO, n);
+                io::print_decimal(STDOUT, n);
                 return;
             }
         }
@@ -94,7 +96,7 @@ pub fn answer(yes: bool) {
 // A refusal's number.
 pub fn refused(number: u32) {
     text(b" refused ");
-    io::print_decimal(STDOUT_FILENO, number as u64);
+    io::print_decimal(STDOUT, number as u64);
 }
 
 // Whether a call was accepted, or the refusal's number.

@@ -1,0 +1,10 @@
+-- `test_strike_orders::draw_payoffs` is safe and ends. The loop's invariant: the list is as long as
+-- at the start. The measure is what is left of it. Assumes nothing.
+use Rattle.std.proofs.Common.{◌≡◌, ◌-◌, length}
+use Rattle.test_strike_orders.proofs.draw_payoffs.Given as goal
+
+abbrev pub invariant-loop-i : goal.invariant-loop-i
+invariant-loop-i l = length l.payoffs ≡ length l.initial.payoffs
+
+abbrev pub decreases-loop-i : goal.decreases-loop-i
+decreases-loop-i l = length l.initial.payoffs - l.i

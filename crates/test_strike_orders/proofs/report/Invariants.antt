@@ -1,0 +1,10 @@
+-- `test_strike_orders::report` is safe and ends. The measure is what is left of the names. Assumes
+-- nothing.
+use Rattle.std.proofs.Common.{◌-◌, length}
+use Rattle.test_strike_orders.proofs.report.Given as goal
+
+abbrev pub invariant-loop-i : goal.invariant-loop-i
+invariant-loop-i l = Unit {0}
+
+abbrev pub decreases-loop-i : goal.decreases-loop-i
+decreases-loop-i l = length l.names - l.i

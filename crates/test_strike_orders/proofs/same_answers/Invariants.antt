@@ -1,0 +1,10 @@
+-- `test_strike_orders::same_answers` is safe and ends. The measure is how many places are left.
+-- Assumes nothing.
+use Rattle.std.proofs.Common.{◌-◌}
+use Rattle.test_strike_orders.proofs.same_answers.Given as goal
+
+abbrev pub invariant-loop-i : goal.invariant-loop-i
+invariant-loop-i l = Unit {0}
+
+abbrev pub decreases-loop-i : goal.decreases-loop-i
+decreases-loop-i l = 432 - l.i

@@ -1,0 +1,13 @@
+-- `test_strikes::write_codes` is safe and ends. The loop's invariant: the list is as long as at the
+-- start. The measure is what is left of it.
+-- Assumes nothing.
+use mathlib.Core.Path.{◌≡◌}
+use Prim.Native.Nat.{◌-◌}
+use lib.ListN.{length}
+use Rattle.test_strikes.proofs.write_codes.Given as goal
+
+abbrev pub invariant-loop-i : goal.invariant-loop-i
+invariant-loop-i l = length l.codes ≡ length l.initial.codes
+
+abbrev pub decreases-loop-i : goal.decreases-loop-i
+decreases-loop-i l = length l.initial.codes - l.i
