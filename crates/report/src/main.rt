@@ -1,69 +1,74 @@
 // The report on a deposit file: it reads the file from standard input, and writes the report to
 // standard output. Where a read fails it writes no report. Where a read or a write fails it says so
-// in a line on standard error, and ends with status 0 all the same: the language has no other.
+// in a line on standard error, and ends with status 1.
 #![tactic(auto)]
 
 ghost use Rattle.io.specs.Counts.{IsPrefixLen};
 
-use libc::{EINTR, STDIN_FILENO, STDOUT_FILENO};
 use report_input::MAX_FILE_BYTES;
 use report_text::MAX_REPORT_BYTES;
+use std::io::{Error, ErrorKind, Read, Write};
+use std::process::ExitCode;
 
 // A byte more than a file may have, so that a longer one is told from the longest.
 const ROOM: usize = MAX_FILE_BYTES + 1;
 
-// What was read: so many bytes, and whether a read failed after them.
-#[derive(Clone, Copy)]
+// What was read: so many bytes, and why a read failed after them, if one did.
+#[derive(Drop)]
 struct Input {
     size: usize,
-    failed: bool,
+    failure: Option<Error>,
 }
 
-// Reads standard input into the start of file, until the input ends, file is full or a read fails.
+// Reads the input into the start of file, until the input ends, file is full or a read fails.
 // A read that a signal interrupted is made again. A proved loop has to end, so these are counted
 // down, from a number that no run uses up.
-fn read_input(file: &mut [u8]) -> Input
+fn read_input<R: Read>(input: &mut R, file: &mut [u8]) -> Input
     ensures { IsPrefixLen result.size file.new }
 {
     let mut size = 0;
     let mut again = usize::MAX;
     while size < file.len() {
-        let part = &mut file[size..];
-        let got = libc::read(STDIN_FILENO, part);
-        let moved = io::count(got, part);
-        if moved > 0 {
-            size += moved;
-        } else if got == 0 {
-            break;
-        } else if again > 0 && os::errno() == EINTR {
-            again -= 1;
-        } else {
-            return Input { size, failed: true };
+        match input.read(&mut file[size..]) {
+            Ok(0) => break,
+            Ok(moved) => size += moved,
+            Err(e) => {
+                if again > 0 && e.kind() == ErrorKind::Interrupted {
+                    again -= 1;
+                } else {
+                    return Input {
+                        size,
+                        failure: Some(e),
+                    };
+                }
+            }
         }
     }
     Input {
         size,
-        failed: false,
+        failure: None,
     }
 }
 
-// Writes the report on a file to standard output. A write that a signal interrupted would count as
-// one that failed, but the program handles no signal, so none interrupts a write to a file or pipe.
-fn write_report(file: &[u8]) {
+// Writes the report on a file to the output, and answers why it could not be written whole, if it
+// could not.
+fn write_report<W: Write>(output: &mut W, file: &[u8]) -> Result<(), Error> {
     let mut text = [0u8; MAX_REPORT_BYTES];
     let end = report_text::report(file, &mut text);
-    if !io::write_all(STDOUT_FILENO, &text[..end]) {
-        os::fail(b"report: standard output could not be written whole");
-    }
+    output.write_all(&text[..end])
 }
 
-fn main() {
+fn main(rt: HostRuntime) -> ExitCode {
     let mut file = [0u8; ROOM];
-    let input = read_input(&mut file);
-    if input.failed {
-        os::fail(b"report: standard input could not be read");
-    } else {
-        let size = input.size;
-        write_report(&file[..size]);
+    let input = read_input(&mut rt.stdin(), &mut file);
+    if let Some(e) = input.failure {
+        let _ = eprintln!(rt; "report: standard input could not be read: {e}");
+        return ExitCode::FAILURE;
     }
+    let size = input.size;
+    if let Err(e) = write_report(&mut rt.stdout(), &file[..size]) {
+        let _ = eprintln!(rt; "report: standard output could not be written whole: {e}");
+        return ExitCode::FAILURE;
+    }
+    ExitCode::SUCCESS
 }

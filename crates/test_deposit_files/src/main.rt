@@ -13,9 +13,12 @@
 // give the very file back that was read.
 #![tactic(auto)]
 
-ghost use Rattle.std.specs.Prelude.{◌≡◌, ◌<◌, length};
+ghost use Rattle.std.specs.Prelude.{◌≡◌, ◌<◌, ◌≤◌, length, IfOk};
 
 use refusal::UsizeResult;
+use std::fs::Files;
+use std::io::Read;
+use std::{fs, io, str};
 use table::{MAX_CELLS, MAX_PLAYERS};
 use test_lines::{LINE, bits_of};
 use test_print::{number, numbers, text};
@@ -372,21 +375,46 @@ fn of_bytes(name: &[u8], file: &mut [u8]) {
     of_payloads(name, file, words);
 }
 
-fn of_file(name: &[u8]) {
-    let fd = os::open_read(name);
-    if fd < 0 {
-        os::fail(name);
-        return;
+// Reads a file into the start of a buffer, until the file ends or the buffer is full, and answers how
+// many bytes these are.
+fn read_file<R: Files>(rt: &R, name: &str, buffer: &mut [u8]) -> io::Result<usize>
+    ensures { IfOk result (λ n. n ≤ length buffer.new) }
+{
+    let mut file = fs::open(rt, name)?;
+    let mut size = 0;
+    while size < buffer.len() {
+        let n = file.read(&mut buffer[size..])?;
+        if n == 0 {
+            break;
+        }
+        size += n;
     }
+    Ok(size)
+}
+
+fn of_file<R: Files + Eprint>(rt: &R, name: &str) {
     let mut file = [0u8; LENGTH];
-    let n = io::read_full(fd, &mut file);
-    libc::close(fd);
-    of_bytes(name, &mut file[..n]);
+    match read_file(rt, name, &mut file) {
+        Ok(n) => of_bytes(name.as_bytes(), &mut file[..n]),
+        Err(e) => {
+            let _ = eprintln!(rt; "{name}: {e}");
+        }
+    }
+}
+
+// A file by its name, or a line on standard error where the name is no text.
+fn of_name<R: Files + Eprint>(rt: &R, name: &[u8]) {
+    match str::from_utf8(name) {
+        Ok(name) => of_file(rt, name),
+        Err(e) => {
+            let _ = eprintln!(rt; "a file's name: {e}");
+        }
+    }
 }
 
 // Each file that standard input names. A proved loop has to end, so it counts its turns down, from
 // a number that no run uses up.
-fn of_names(buffer: &mut [u8]) {
+fn of_names<R: Files + Eprint>(rt: &R, buffer: &mut [u8]) {
     let mut input = test_lines::start();
     let mut turns = u64::MAX;
     while 0 < turns {
@@ -395,7 +423,7 @@ fn of_names(buffer: &mut [u8]) {
         if input.ended {
             return;
         }
-        of_file(test_lines::line_at(buffer, input));
+        of_name(rt, test_lines::line_at(buffer, input));
     }
 }
 
@@ -572,9 +600,9 @@ fn of_payoffs(payoffs: &mut [f64]) {
     of_table(first(payoffs, MAX_CELLS));
 }
 
-fn main() {
+fn main(rt: HostRuntime) {
     let mut buffer = [0; LINE];
-    of_names(&mut buffer);
+    of_names(&rt, &mut buffer);
     let mut payoffs = large_floats_room();
     of_payoffs(&mut payoffs);
 }
