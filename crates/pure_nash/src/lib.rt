@@ -57,7 +57,9 @@ fn list_swept(
     profile_listing::list_marked(counts, payoffs, marks, profiles, choices, utilities)
 }
 
-// The same with bytes of its own, for a table of at most 64 cells, which the caller proves.
+// The same with bytes of its own, for a table of at most 64 cells, which the caller proves. It and the
+// two below are not inlined, so that each has its bytes in a frame of its own.
+#[inline(never)]
 pub fn small_equilibria(
     counts: &[usize],
     payoffs: &[f64],
@@ -78,6 +80,7 @@ pub fn small_equilibria(
 }
 
 // The same for a table of at most 2,048 cells, which the caller proves.
+#[inline(never)]
 pub fn middle_equilibria(
     counts: &[usize],
     payoffs: &[f64],
@@ -101,6 +104,7 @@ pub fn middle_equilibria(
 }
 
 // The same for any table. The caller proves the rest.
+#[inline(never)]
 pub fn marked_equilibria(
     counts: &[usize],
     payoffs: &[f64],
