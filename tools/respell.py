@@ -24,8 +24,14 @@ FACTS = {"two": "Two"}
 FACT_FILES = {"two": "crates/mark_responses/proofs/Rows.antt"}
 # Lemmas whose plain name the toolchain's library has.
 TAKEN = {"flat-map": "flat_map_lem", "slice-val": "slice_val_lem"}
-# A name that the toolchain's script took apart: its word getD is now get_or.
-MENDED = {"get_d_map": "get_or_map"}
+# A name that the toolchain's script took apart: its word getD is now get_or. Fields of records whose plain
+# name a definition has.
+MENDED = {
+    "get_d_map": "get_or_map",
+    "same-players": "players_agree",
+    "same-counts": "counts_agree",
+    "two-by-two": "two_by_two_counts",
+}
 
 
 def new_name(name):

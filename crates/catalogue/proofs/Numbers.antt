@@ -185,13 +185,13 @@ strict_law counts payoffs d = (
       let e = pair_law counts s.0 in
       record {
         accepted = a;
-        two_by_two_lem = e;
+        two_by_two_counts = e;
         different_keys =
             subst (λ (cs : List ℕ). DifferentKeys cs payoffs) (sym e)
             ((keys_law payoffs d).0 (subst (λ (cs : List ℕ). T (strictly_ranked (bimatrix (table_game cs payoffs)))) e s.1));
       },
   λ r.
-      let e = r.two_by_two_lem in (
+      let e = r.two_by_two_counts in (
         r.accepted,
         (
           subst (λ (cs : List ℕ). T (two_by_two cs)) (sym e) tt,

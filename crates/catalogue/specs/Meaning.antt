@@ -50,5 +50,5 @@ module _ (counts : List ℕ) (payoffs : List Float) where
   -- payoffs have four different order keys
   pub record StrictlyRanked : Type 0 where
     pub accepted : table_refusal counts payoffs ≡ none
-    pub two_by_two_lem : counts ≡ 2 ∷ 2 ∷ []
+    pub two_by_two_counts : counts ≡ 2 ∷ 2 ∷ []
     pub different_keys : DifferentKeys

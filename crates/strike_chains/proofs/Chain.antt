@@ -53,8 +53,8 @@ module _ (counts : List ℕ) (payoffs : List Float) where
       record {
         full = fresh_full counts;
         own = record {
-          same_players_lem = refl;
-          same_counts_lem = λ p l. space_count counts p t.shape.few;
+          players_agree = refl;
+          counts_agree = λ p l. space_count counts p t.shape.few;
           some = λ p l. (0, subst T (sym (is p 0)) ((whole_law g p 0).1 (t.shape.low p l)));
           within = λ p s l h. (whole_law g p s).0 (subst T (is p s) h);
         };
@@ -90,8 +90,8 @@ module _ (counts : List ℕ) (payoffs : List Float) where
           record {
             full = without_full v c k.full (omega (arith, a.survives.0.0, t.shape.few)) low;
             own = record {
-              same_players_lem = k.own.same_players_lem;
-              same_counts_lem = k.own.same_counts_lem;
+              players_agree = k.own.players_agree;
+              counts_agree = k.own.counts_agree;
               some = λ p l.
                   ⊎_elim
                   (λ (e : T (eqb p c.player)).

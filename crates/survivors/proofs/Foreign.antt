@@ -66,8 +66,8 @@ module _ (counts : List ℕ) (v : Survivors) where
         let (j, d) = (and_T (same_players counts v && same_counts counts v) (each_marked counts v)).0 i in
         let (a, b) = (and_T (same_players counts v) (same_counts counts v)).0 j in
         record {
-          same_players_lem = (eqb_T v.players (length counts)).0 a;
-          same_counts_lem = λ p l. (eqb_T (get_or v.counts p 0) (get_or counts p 0)).0 ((all_T same_count (below max_players)).0 b p ((below_mem max_players p).1 l));
+          players_agree = (eqb_T v.players (length counts)).0 a;
+          counts_agree = λ p l. (eqb_T (get_or v.counts p 0) (get_or counts p 0)).0 ((all_T same_count (below max_players)).0 b p ((below_mem max_players p).1 l));
           some = λ p l. let (s, _, _, k) = (marked_from_law (marks_of v) p 0).0 ((all_T has_mark (below (length counts))).0 d p ((below_mem (length counts) p).1 l)) in (s, k);
           within = λ p s l k.
               ⊎_elim
@@ -77,8 +77,8 @@ module _ (counts : List ℕ) (v : Survivors) where
               (λ under. under) (le_or_lt (get_or counts p 0) s);
         },
     λ o.
-        let a = (eqb_T v.players (length counts)).1 o.same_players_lem in
-        let b = (all_T same_count (below max_players)).1 (λ p i. (eqb_T (get_or v.counts p 0) (get_or counts p 0)).1 (o.same_counts_lem p ((below_mem max_players p).0 i))) in
+        let a = (eqb_T v.players (length counts)).1 o.players_agree in
+        let b = (all_T same_count (below max_players)).1 (λ p i. (eqb_T (get_or v.counts p 0) (get_or counts p 0)).1 (o.counts_agree p ((below_mem max_players p).0 i))) in
         let d = (all_T has_mark (below (length counts))).1 (λ p i.
         let (s, k) = o.some p ((below_mem (length counts) p).0 i) in
         (marked_from_law (marks_of v) p 0).1 (s, omega arith, mark_low v.marks p s k, k)) in
@@ -149,8 +149,8 @@ module _ (counts : List ℕ) (v : Survivors) where
   pub own_all : (n : ℕ) → max_players ≤ n → length counts ≤ max_players → v.players ≡ length counts → OwnTo counts v.counts v.marks n → Own counts v
   own_all n h few e o =
       record {
-        same_players_lem = e;
-        same_counts_lem = λ p l. o.same p (omega arith);
+        players_agree = e;
+        counts_agree = λ p l. o.same p (omega arith);
         some = λ p l. let (s, _, _, k) = (marked_from_law (marks_of v) p 0).0 (o.some p (omega arith) l) in (s, k);
         within = λ p s l k.
             ⊎_elim

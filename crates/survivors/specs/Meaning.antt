@@ -6,7 +6,7 @@ use Rattle.survivors.specs.Survivors.{marks_of}
 
 -- survivors that are not foreign to a table with these counts
 pub record Own (counts : List ℕ) (v : Survivors) : Type 0 where
-  pub same_players_lem : v.players ≡ length counts
-  pub same_counts_lem : (p : ℕ) → p < max_players → get_or v.counts p 0 ≡ get_or counts p 0
+  pub players_agree : v.players ≡ length counts
+  pub counts_agree : (p : ℕ) → p < max_players → get_or v.counts p 0 ≡ get_or counts p 0
   pub some : (p : ℕ) → p < length counts → (s : ℕ) × T (marks_of v p s)
   pub within : (p s : ℕ) → p < max_players → T (marks_of v p s) → s < get_or counts p 0

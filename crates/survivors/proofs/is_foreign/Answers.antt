@@ -22,7 +22,7 @@ module _ (c : Joined-p-counts) where
 pub returns-then-survivors-counts : goal.returns-then-survivors-counts
 returns-then-survivors-counts c =
     let s = c in
-    sym (not_own s.args.counts.now s.args.survivors (λ o. c.if-survivors-counts.true o.same_players_lem))
+    sym (not_own s.args.counts.now s.args.survivors (λ o. c.if-survivors-counts.true o.players_agree))
 
 pub loop-p-init : goal.loop-p-init
 loop-p-init c = (omega arith, own_start _ _ _)
@@ -39,7 +39,7 @@ returns-then-not-marked_from c =
 pub returns-then-held-p : goal.returns-then-held-p
 returns-then-held-p c =
     let l = c in
-    sym (not_own l.args.counts.now l.args.survivors (λ o. c.if-held-p.true (o.same_counts_lem l.loop-p.p l.loop-p-test.true ∙ sym (count-is (goal.at.returns-then-held-p c).Joined-p-counts))))
+    sym (not_own l.args.counts.now l.args.survivors (λ o. c.if-held-p.true (o.counts_agree l.loop-p.p l.loop-p-test.true ∙ sym (count-is (goal.at.returns-then-held-p c).Joined-p-counts))))
 
 pub marked_from-requires-in-loop-p : goal.marked_from-requires-in-loop-p
 marked_from-requires-in-loop-p c = record { marks_len = search rules; player_lt_max_players = c.loop-p-test.true }
