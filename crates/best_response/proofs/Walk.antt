@@ -70,9 +70,6 @@ module _ (counts : List ℕ) (p : ℕ) (opponents : List ℕ) where
 
       -- an opponent, whose choice is read
       module _ (d : q ≢ p) where
-        pub walked_inside : next < length opponents
-        walked_inside = ⊎_elim (λ h. omega (arith, h, d, mine)) (λ h. omega (arith, h)) u.place
-
         pub walked_read : get_or opponents next 0 ≡ choice (against p opponents 0) q
         walked_read =
             ⊎_elim

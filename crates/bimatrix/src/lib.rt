@@ -1,12 +1,14 @@
-// Games of two players with 2 strategies each, as two matrices of numbers: swapping rows and columns, and the key that document 01, "The
-// catalogue", makes of ranks. Any numbers may be handed in.
+// Games of two players with 2 strategies each, as two matrices of numbers: swapping rows and
+// columns, and the key that document 01, "The catalogue", makes of ranks. Any numbers may be handed
+// in.
 #![tactic(auto)]
 
-ghost use Rattle.std.specs.Prelude.{◌≡◌, min};
+ghost use Rattle.std.specs.Prelude.{◌≡◌};
 ghost use Rattle.bimatrix.specs.Matrices.{in_order, swap_rows, swap_columns, both};
 ghost use Rattle.bimatrix.specs.Keys.{different, strictly_ranked, base4, key, least_key};
 
-// One player's numbers at the four profiles: at01 is that of row 0, player 0's strategy, and column 1, player 1's.
+// One player's numbers at the four profiles: at01 is that of row 0, player 0's strategy, and column
+// 1, player 1's.
 #[derive(Clone, Copy)]
 pub struct Matrix {
     pub at00: u8,
@@ -56,8 +58,8 @@ impl Matrix {
     fn base4(self) -> usize
         ensures { result ≡ base4 (in_order self) }
     {
-        let high = (self.at00 as usize) * 4 + (self.at01 as usize);
-        let low = (self.at10 as usize) * 4 + (self.at11 as usize);
+        let high = usize::from(self.at00) * 4 + usize::from(self.at01);
+        let low = usize::from(self.at10) * 4 + usize::from(self.at11);
         high * 16 + low
     }
 }
@@ -69,23 +71,14 @@ pub struct Bimatrix {
     pub second: Matrix,
 }
 
-// The lower of two numbers.
-fn lower(a: usize, b: usize) -> usize
-    ensures { result ≡ min a b }
-{
-    if a < b { a } else { b }
-}
-
 impl Bimatrix {
-    // The rows swapped.
+    // The rows swapped. Rows and columns have a body each: one over a closure would be no shorter.
     fn swap_rows(self) -> Bimatrix
         ensures { result ≡ both swap_rows self }
     {
-        let first = self.first;
-        let second = self.second;
         Bimatrix {
-            first: first.swap_rows(),
-            second: second.swap_rows(),
+            first: self.first.swap_rows(),
+            second: self.second.swap_rows(),
         }
     }
 
@@ -93,11 +86,9 @@ impl Bimatrix {
     fn swap_columns(self) -> Bimatrix
         ensures { result ≡ both swap_columns self }
     {
-        let first = self.first;
-        let second = self.second;
         Bimatrix {
-            first: first.swap_columns(),
-            second: second.swap_columns(),
+            first: self.first.swap_columns(),
+            second: self.second.swap_columns(),
         }
     }
 
@@ -105,18 +96,14 @@ impl Bimatrix {
     pub fn strictly_ranked(self) -> bool
         ensures { result ≡ strictly_ranked self }
     {
-        let first = self.first;
-        let second = self.second;
-        first.different() & second.different()
+        self.first.different() & self.second.different()
     }
 
     // The eight numbers as base-4 digits, player 0's first.
     fn key(self) -> usize
         ensures { result ≡ key self }
     {
-        let first = self.first;
-        let second = self.second;
-        first.base4() * 256 + second.base4()
+        self.first.base4() * 256 + self.second.base4()
     }
 
     // The least key among the four tables got by swapping rows, columns or both.
@@ -126,9 +113,9 @@ impl Bimatrix {
         let columns = self.swap_columns();
         let rows = self.swap_rows();
         let both = columns.swap_rows();
-        lower(
-            rows.key(),
-            lower(columns.key(), lower(both.key(), self.key())),
-        )
+        self.key()
+            .min(rows.key())
+            .min(columns.key())
+            .min(both.key())
     }
 }

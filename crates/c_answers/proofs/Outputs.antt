@@ -1,4 +1,4 @@
--- What the outputs of a call are left with: an answer told into one, a space told into two, and the part that C is told, which is that of
+-- What the outputs of a call are left with: an answer told into one, and the part that C is told, which is that of
 -- `profile_payoffs`; and that survivors come back from C as they were told. Assumes nothing.
 use mathlib.Core.Path.{◌≡◌, refl, sym, ap, ◌∙◌}
 use mathlib.Core.Bool.{Bool, true, false, not}
@@ -7,7 +7,7 @@ use mathlib.Core.Option.{Option, none, some}
 use Prim.Native.Nat.{ℕ, ◌+◌, ◌≤◌, ◌<◌}
 use native.Mathlib.Omega.{arith}
 use Rattle.refusal.specs.Refusal.{Refusal, ◌then◌}
-use Rattle.refusal.specs.Told.{Told, values, refused, told_of, told_unit, unless, status, byte_of}
+use Rattle.refusal.specs.Told.{Told, values, refused, told_of, unless, status, byte_of}
 use Rattle.refusal.proofs.Told.{told_values, byte_back}
 use borrow.Author.Count.{below_more}
 use lib.Dec.{eqb}
@@ -17,8 +17,6 @@ use lib.Ieee.{Float}
 use Rattle.payoff_tables.specs.Table.{profile_part}
 use Rattle.payoff_tables.specs.Checks.{table_refusal, profile_refusal}
 use Rattle.payoff_tables.specs.Answers.{profile_payoffs, part_first}
-use Rattle.table.specs.Space.{space_of, space_unless}
-use Rattle.table.specs.declared.SpaceResult.{SpaceResult}
 use Rattle.payoff_tables.proofs.Offsets.{get_or_map}
 use Rattle.survivors.specs.declared.Survivors.{Survivors}
 use Rattle.c_answers.specs.Status.{output, beside, some_byte, or_zero, part_start, part_length, survivors_of, mark_bytes}
@@ -53,14 +51,6 @@ told_ok t v e = rw (← e) (refl, λ old. refl, λ B w old. refl)
 pub told_err : {A : Type 0} (t : Told A) (n : ℕ) → refused n ≡ t
     → (n ≡ status t) × ((old : A) → old ≡ output t old) × ((B : Type 0) (w old : B) → old ≡ beside t w old)
 told_err t n e = rw (← e) (refl, λ old. refl, λ B w old. refl)
-
--- a space told beside its answer is told through the outputs
-pub space_output : (r : Refusal) (cs : List ℕ) (a : SpaceResult) → told_unit a.answer ≡ unless r tt → a.space ≡ space_unless r cs
-    → (status (told_unit a.answer) ≡ status (unless r (space_of cs)))
-    × ((old : ℕ) → beside (told_unit a.answer) a.space.players old ≡ output (unless r (space_of cs).players) old)
-    × ((old : List ℕ) → beside (told_unit a.answer) a.space.counts old ≡ output (unless r (space_of cs).counts) old)
-space_output none cs a h e = (rw h, λ old. rw (h, e), λ old. rw (h, e))
-space_output (some d) cs a h e = (rw h, λ old. rw h, λ old. rw h)
 
 -- the part that C is told, by its first place and its length, is the part that `profile_payoffs`
 -- hands back: it starts at the same place and holds the same

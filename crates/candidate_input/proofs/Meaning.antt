@@ -1,4 +1,5 @@
--- The tests of `Input` say what `Meaning` has: `sized-law`, `tolerable-law`, `well-formed-law` and `claimed-law`. Assumes nothing.
+-- The tests of `Input` say what `Meaning` has: `sized-law`, `tolerable-law`, `well-formed-law` and
+-- `claimed-law`. Assumes nothing.
 use mathlib.Core.Path.{◌≡◌, sym, subst}
 use mathlib.Core.Bool.{Bool, false, not, ◌&&◌}
 use mathlib.Core.List.{List}

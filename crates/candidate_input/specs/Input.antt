@@ -1,4 +1,5 @@
--- Document 01, "Candidate checks": what is handed in. Tables and weights are flat by rows, of m rows and n columns. Assumes nothing.
+-- Document 01, "Candidate checks": what is handed in. Tables and weights are flat by rows, of m
+-- rows and n columns. Assumes nothing.
 use Rattle.std.specs.Prelude.{Bool, not, ◌&&◌, List, ℕ, ◌*◌, leb, eqb, length, Float}
 use Rattle.std.specs.Float.Ieee.{lt}
 use Rattle.game.specs.Finite.{all}
@@ -19,7 +20,8 @@ abbrev pub tolerable : Float → Bool
 tolerable tolerance = finite tolerance && not (lt tolerance zero)
 
 module _ (m n : ℕ) (u1 u2 weights : List Float) where
-  -- no size zero or over 64, no length other than m × n, no non-finite number and no negative weight
+  -- no size zero or over 64, no length other than m × n, no non-finite number and no negative
+  -- weight
   unfoldable pub well_formed : Bool
   well_formed =
       sized m n

@@ -36,7 +36,8 @@ pub record WellFormed (m n : ℕ) (u1 u2 weights : List Float) : Type 0 where
   pub weighted : Finites (m * n) weights
   pub not_negative : NoneBelow zero weights
 
--- a table, two vectors and a claim of the right sizes and lengths, of finite numbers, and no negative tolerance
+-- a table, two vectors and a claim of the right sizes and lengths, of finite numbers, and no
+-- negative tolerance
 pub record Claimed (m n : ℕ) (payoffs p1 p2 : List Float) (claim : Claim) : Type 0 where
   pub size : Sized m n
   pub table : Finites (m * n) payoffs

@@ -1,5 +1,5 @@
-// What is handed in to the candidate checks, tested: tables flat by rows, of m rows and n columns, weights, vectors and a claim. Nothing of it
-// is believed.
+// What is handed in to the candidate checks, tested: tables flat by rows, of m rows and n columns,
+// weights, vectors and a claim. Nothing of it is believed.
 #![tactic(auto)]
 
 ghost use Rattle.std.specs.Prelude.{◌≡◌, not};
@@ -10,7 +10,8 @@ ghost use Rattle.candidate_input.specs.Input.{sized, well_formed, tolerable, cla
 // The most rows and the most columns: the candidate checks' own limit.
 pub const MAX_ACTIONS: usize = 64;
 
-// What a minimax candidate claims: the value of the game to player 1, and how far from it, and from a distribution, it may be.
+// What a minimax candidate claims: the value of the game to player 1, and how far from it, and from
+// a distribution, it may be.
 #[repr(C)]
 #[derive(Clone, Copy)]
 pub struct Claim {
@@ -25,15 +26,14 @@ fn is_sized(m: usize, n: usize) -> bool
     (1 <= m) & (m <= MAX_ACTIONS) & (1 <= n) & (n <= MAX_ACTIONS)
 }
 
-// Whether no number is below `bound`. The loop has no exit inside, so that it is compiled to vector instructions.
+// Whether no number is below `bound`. The loop has no exit inside, so that it is compiled to vector
+// instructions.
 pub fn none_below(values: &[f64], bound: f64) -> bool
     ensures { result ≡ all (λ x. not (lt x bound)) values.now }
 {
     let mut ok = true;
-    let mut i = 0;
-    while i < values.len() {
-        ok = ok & !(values[i] < bound);
-        i += 1;
+    for value in values {
+        ok &= !(*value < bound);
     }
     ok
 }
@@ -45,7 +45,8 @@ pub fn is_tolerable(tolerance: f64) -> bool
     utility::is_finite(tolerance) & !(tolerance < 0.0)
 }
 
-// Whether two tables and weights have the sizes and lengths that are said, finite numbers and no negative weight.
+// Whether two tables and weights have the sizes and lengths that are said, finite numbers and no
+// negative weight.
 pub fn is_well_formed(m: usize, n: usize, u1: &[f64], u2: &[f64], weights: &[f64]) -> bool
     ensures { result ≡ well_formed m n u1.now u2.now weights.now }
 {
@@ -62,7 +63,8 @@ pub fn is_well_formed(m: usize, n: usize, u1: &[f64], u2: &[f64], weights: &[f64
         & none_below(weights, 0.0)
 }
 
-// Whether a table, two vectors and a claim have the sizes and lengths that are said, finite numbers and no negative tolerance.
+// Whether a table, two vectors and a claim have the sizes and lengths that are said, finite numbers
+// and no negative tolerance.
 pub fn is_claim(m: usize, n: usize, payoffs: &[f64], p1: &[f64], p2: &[f64], claim: Claim) -> bool
     ensures { result ≡ claimed m n payoffs.now p1.now p2.now claim }
 {

@@ -1,5 +1,5 @@
--- The expectations that the minimax check compares: columns against a lower bound alone (`columns-are`), rows against an upper one alone
--- (`rows_are`). Assumes nothing.
+-- The expectations that the minimax check compares: columns against a lower bound alone
+-- (`columns-are`), rows against an upper one alone (`rows_are`). Assumes nothing.
 use mathlib.Core.Path.{◌≡◌, ap, ◌∙◌}
 use mathlib.Core.Bool.{false}
 use mathlib.Core.List.{List}

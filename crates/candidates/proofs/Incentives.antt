@@ -1,5 +1,5 @@
--- The answer of the correlated check: 0.0 raised by both players' gains (`raised_is`), or infinity for what is not well formed (`not-formed`).
--- Assumes nothing.
+-- The answer of the correlated check: 0.0 raised by both players' gains (`raised_is`), or infinity
+-- for what is not well formed (`not-formed`). Assumes nothing.
 use mathlib.Core.Path.{◌≡◌, sym, ap, ◌∙◌}
 use mathlib.Core.Bool.{Bool, true, false, cond, ◌&&◌}
 use mathlib.Core.List.{List}

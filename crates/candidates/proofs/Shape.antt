@@ -1,5 +1,5 @@
--- Where the numbers of a table with m rows and n columns stand: by the strides of player 1 (`rows-span`,
--- `by_rows`) and of player 2 (`columns-span`, `by-columns`). Assumes nothing.
+-- Where the numbers of a table with m rows and n columns stand: by the strides of player 1
+-- (`rows-span`, `by_rows`) and of player 2 (`columns-span`, `by-columns`). Assumes nothing.
 use mathlib.Core.Path.{◌≡◌, sym, ap, ◌∙◌, subst, fun_ext}
 use mathlib.Core.List.{List}
 use Prim.Native.Nat.{ℕ, ◌+◌, ◌*◌, ◌<◌}

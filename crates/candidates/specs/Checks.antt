@@ -1,4 +1,5 @@
--- Document 01, "Candidate checks". Tables and weights are flat by rows, of m rows and n columns. Assumes nothing.
+-- Document 01, "Candidate checks". Tables and weights are flat by rows, of m rows and n columns.
+-- Assumes nothing.
 use Rattle.std.specs.Prelude.{Bool, not, ◌&&◌, List, ◌++◌, ℕ, ◌+◌, ◌*◌, get_or, Float}
 use Rattle.std.specs.Float.{nan, binary64}
 use Rattle.std.specs.Float.Ieee.{add, sub, lt}

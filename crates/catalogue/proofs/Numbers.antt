@@ -23,11 +23,11 @@ use Rattle.game.specs.Game.{Game, Profile, profiles}
 use Rattle.game.proofs.Finite.{and_T, filter_cong, test_true, test_false}
 use Rattle.game.proofs.Game.{profiles_law, profiles_once}
 use Rattle.refusal.specs.Refusal.{Refusal, number_of}
-use Rattle.refusal.specs.Told.{values, unless, option_usize}
-use Rattle.refusal.specs.declared.UsizeOption.{UsizeOption}
-use Rattle.refusal.specs.declared.UsizeOption.TheVariants.{None, Some}
+use Rattle.refusal.specs.Told.{values, unless, optional}
+use Rattle.refusal.specs.declared.NormalFormError.{NormalFormError}
+use Rattle.std.specs.Prelude.{Option as Answered}
 use Rattle.refusal.proofs.Refusal.{number_once}
-use Rattle.refusal.proofs.Told.{apart}
+use Rattle.refusal.proofs.Told.{apart, optional_once}
 use Rattle.payoff_order.specs.Order.{key as orderKey, rank}
 use Rattle.payoff_order.proofs.Laws.{zero_key}
 use Rattle.payoff_order.proofs.Rank.{rank_lt, rank_eq}
@@ -37,8 +37,8 @@ use Rattle.payoff_tables.specs.Meaning.{Doubles}
 use Rattle.bimatrix.specs.declared.Bimatrix.{Bimatrix}
 use Rattle.bimatrix.specs.Matrices.{matrix_of, in_order, bimatrix_of, bimatrix}
 use Rattle.bimatrix.specs.Keys.{rank_among, ranked, ranks, different, strictly_ranked, least_key}
-use Rattle.catalogue.specs.declared.NumberResult.{NumberResult}
-use Rattle.catalogue.specs.declared.NumberResult.TheVariants.{Ok, Err}
+use Rattle.std.specs.Prelude.{Result}
+use Rattle.std.specs.Prelude.{Ok, Err}
 use Rattle.catalogue.specs.Catalogue.{place, catalogue}
 use Rattle.bimatrix.specs.Meaning.{Swapped}
 use Rattle.catalogue.specs.Meaning.{LeastKey, Strict, key_rank, DifferentKeys, StrictlyRanked}
@@ -245,14 +245,8 @@ same_number counts payoffs d r counts' payoffs' d' r' =
 
 -- ---- what was told determines the answer
 
-option_once : (a b : UsizeOption) → option_usize a ≡ option_usize b → a ≡ b
-option_once None None h = refl
-option_once None (Some n) h = let z : ◌≡◌ {A = ℕ} 0 1 = cc in absurd (omega arith)
-option_once (Some m) None h = let z : ◌≡◌ {A = ℕ} 0 1 = cc in absurd (omega arith)
-option_once (Some m) (Some n) h = ap Some (cc)
-
-pub told_number_once : (r s : NumberResult) → told_number r ≡ told_number s → r ≡ s
-told_number_once (Ok a) (Ok b) h = ap Ok (option_once a b (cc))
-told_number_once (Ok a) (Err e) h = absurd (apart (option_usize a) (number_of e) h)
-told_number_once (Err d) (Ok b) h = absurd (apart (option_usize b) (number_of d) (sym h))
+pub told_number_once : (r s : Result (Answered ℕ) NormalFormError) → told_number r ≡ told_number s → r ≡ s
+told_number_once (Ok a) (Ok b) h = ap Ok (optional_once a b (cc))
+told_number_once (Ok a) (Err e) h = absurd (apart (optional a) (number_of e) h)
+told_number_once (Err d) (Ok b) h = absurd (apart (optional b) (number_of d) (sym h))
 told_number_once (Err d) (Err e) h = ap Err (number_once d e (cc))

@@ -1,7 +1,7 @@
 -- The place of a key is the first at which it stands (`place-law`), so two keys of a list have the same place exactly where they are the
 -- same (`same_place`). Assumes nothing.
 use mathlib.Core.Path.{◌≡◌, refl, sym, ap, ◌∙◌}
-use mathlib.Core.Bool.{Bool}
+use mathlib.Core.Bool.{Bool, true, false, cond}
 use mathlib.Core.List.Memᴰ.{cases_cons as in-cons}
 use mathlib.Core.List.Memᴰ.{not-nil as not-in-nil}
 use mathlib.Core.List.{List, [], ◌∷◌}
@@ -9,11 +9,16 @@ use mathlib.Core.Logic.{◌↔◌, ⊎_elim}
 use mathlib.Core.Option.{Option, none, some}
 use Prim.Native.Nat.{ℕ, suc, ◌<◌}
 use native.Mathlib.Omega.{arith}
-use lib.Dec.{eqb}
+use lib.Dec.{ltb, eqb}
 use lib.ListN.{length, get_or}
 use Rattle.game.specs.Finite.{◌∈◌, below, filter, First}
 use Rattle.game.proofs.Finite.{eqb_T}
-use Rattle.game.proofs.Sorted.{lists_iff, lists_filter, first_law, less_asym, below_law}
+use Rattle.game.proofs.Sorted.{lists_iff, lists_filter, first_law, less_asym, below_law, lowest_none, lowest_some}
+use Rattle.std.specs.Prelude.{position, Some, None}
+use Rattle.std.specs.List.{position_or_len}
+use Rattle.std.proofs.lemmas.Bool.{eqb-true, eq-eqb, ltb-true, ltb-false}
+use Rattle.std.proofs.lemmas.List.Sums.{passes_at_first, fails_before_first}
+use Rattle.refusal.specs.Told.{optional}
 use Rattle.catalogue.specs.Catalogue.{place}
 use Rattle.catalogue.specs.Meaning.{Stands}
 
@@ -47,3 +52,22 @@ same_place ks j k h l =
     let (m, d, s) = placed ks j h in
     let (n, e, t) = placed ks k l in
     (λ p. let q : m ≡ n = cc in sym s.1 ∙ ap (λ (i : ℕ). get_or ks i 0) q ∙ t.1, λ p. ap (place ks) p)
+
+-- the library's first place of a key is this one
+module _ (ks : List ℕ) (k : ℕ) where
+  at_first : (b : Bool) → ltb (position_or_len (λ x. eqb x k) ks) (length ks) ≡ b → optional (cond b (Some (position_or_len (λ x. eqb x k) ks)) None) ≡ place ks k
+  at_first true e =
+      let n = position_or_len (λ x. eqb x k) ks in
+      let l : n < length ks = ltb-true n (length ks) e in
+      sym
+      (lowest_some (Stands ks k) (place ks k) (place_law ks k) n (l, eqb-true (get_or ks n 0) k (passes_at_first (λ x. eqb x k) ks 0 l))
+      (λ j m s. let t = eq-eqb (get_or ks j 0) k s.1 in let f = fails_before_first (λ x. eqb x k) ks j 0 m in cc))
+  at_first false e =
+      let n = position_or_len (λ x. eqb x k) ks in
+      sym (lowest_none (Stands ks k) (place ks k) (place_law ks k) (λ j s.
+      let t = eq-eqb (get_or ks j 0) k s.1 in
+      let f = fails_before_first (λ x. eqb x k) ks j 0 (omega (arith, s.0, ltb-false n (length ks) e)) in
+      cc))
+
+  pub position_place : optional (position (λ x. eqb x k) ks) ≡ place ks k
+  position_place = at_first (ltb (position_or_len (λ x. eqb x k) ks) (length ks)) refl

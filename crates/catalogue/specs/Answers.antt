@@ -1,14 +1,12 @@
 -- What `number` answers: the definition that its contract names. Assumes nothing.
-use Rattle.std.specs.Prelude.{Bool, cond, ◌&&◌, List, ℕ, ◌+◌, eqb, length, get_or, Float}
+use Rattle.std.specs.Prelude.{Bool, cond, ◌&&◌, List, ℕ, ◌+◌, eqb, length, get_or, Result, Option as Answered, Float}
 use Rattle.std.proofs.Math.Option.{Option, none}
 use Rattle.game.specs.Game.{Game}
-use Rattle.refusal.specs.Refusal.{number_of}
-use Rattle.refusal.specs.Told.{Told, values, refused, unless, option_usize}
+use Rattle.refusal.specs.Told.{Told, unless, told_of, told, optional}
+use Rattle.refusal.specs.declared.NormalFormError.{NormalFormError}
 use Rattle.payoff_tables.specs.Table.{cell_rank, table_game}
 use Rattle.payoff_tables.specs.Checks.{table_refusal}
 use Rattle.bimatrix.specs.declared.Matrix.{Matrix}
-use Rattle.catalogue.specs.declared.NumberResult.{NumberResult}
-use Rattle.catalogue.specs.declared.NumberResult.TheVariants.{Ok, Err}
 use Rattle.bimatrix.specs.Matrices.{bimatrix}
 use Rattle.bimatrix.specs.Keys.{ranks, strictly_ranked, least_key}
 use Rattle.catalogue.specs.Catalogue.{place, catalogue}
@@ -26,9 +24,8 @@ unfoldable pub number_answer : List ℕ → List Float → Told (Option ℕ)
 number_answer counts payoffs = unless (table_refusal counts payoffs) (game_number catalogue (table_game counts payoffs))
 
 -- what the code's answer tells
-abbrev pub told_number : NumberResult → Told (Option ℕ)
-told_number (Ok n) = values (option_usize n)
-told_number (Err e) = refused (number_of e)
+abbrev pub told_number : Result (Answered ℕ) NormalFormError → Told (Option ℕ)
+told_number r = told_of optional (told r)
 
 -- ---- for the code
 

@@ -1,9 +1,10 @@
-// The catalogue of document 01: a number for each strictly ranked 2 x 2 table. Two tables have the same number exactly where swapping rows,
-// columns, both or neither turns the ranks of one into those of the other.
+// The catalogue of document 01: a number for each strictly ranked 2 x 2 table. Two tables have the
+// same number exactly where swapping rows, columns, both or neither turns the ranks of one into
+// those of the other.
 #![tactic(auto)]
 
 ghost use Rattle.std.specs.Prelude.{◌≡◌, ◌+◌, ◌<◌, length};
-ghost use Rattle.refusal.specs.Told.{option_usize};
+ghost use Rattle.refusal.specs.Told.{optional};
 ghost use Rattle.payoff_tables.specs.Table.{cell_rank, table_game};
 ghost use Rattle.payoff_tables.specs.Meaning.{Finites, Table};
 ghost use Rattle.bimatrix.specs.Matrices.{in_order};
@@ -12,14 +13,7 @@ ghost use Rattle.catalogue.specs.Catalogue.{place, catalogue};
 ghost use Rattle.catalogue.specs.Answers.{cell_matrix, two_by_two, game_number, told_number, number_answer};
 
 use bimatrix::{Bimatrix, Matrix};
-use refusal::{NormalFormError, UsizeOption, UsizeResult};
-
-// Rust's `Result<Option<usize>, NormalFormError>`: a number of the catalogue or none, or the refusal.
-#[derive(Clone, Copy)]
-pub enum NumberResult {
-    Ok(UsizeOption),
-    Err(NormalFormError),
-}
+use refusal::NormalFormError;
 
 // How many keys there are.
 pub const KEYS: usize = 144;
@@ -54,7 +48,7 @@ fn less(payoffs: &[f64], cell: usize, other: usize) -> u8
     requires finites { Finites payoffs.now }
     ensures { result ≡ one_if_less (cell_rank payoffs.now cell) (cell_rank payoffs.now other) }
 {
-    table::exceeds(payoffs, other, cell) as u8
+    u8::from(table::exceeds(payoffs, other, cell))
 }
 
 // How many of a player's four payoffs are less than that of a cell.
@@ -86,57 +80,43 @@ fn player_ranks(payoffs: &[f64], player: usize) -> Matrix
 // ---- a table's number
 
 // The first place of a key, or none.
-fn place(keys: &[u16], key: usize) -> UsizeOption
-    ensures { option_usize result ≡ place keys.now key }
+fn place(keys: &[u16], key: usize) -> Option<usize>
+    ensures { optional result ≡ place keys.now key }
 {
-    let mut i = 0;
-    while i < keys.len() {
-        if keys[i] as usize == key {
-            return UsizeOption::Some(i);
-        }
-        i += 1;
-    }
-    UsizeOption::None
+    keys.iter().position(|k| usize::from(*k) == key)
 }
 
 // Whether there are two players with two strategies each.
 fn two_by_two(counts: &[usize]) -> bool
     ensures { result ≡ two_by_two counts.now }
 {
-    if counts.len() == 2 {
-        (counts[0] == 2) & (counts[1] == 2)
-    } else {
-        false
-    }
+    counts == [2, 2].as_slice()
 }
 
 // The number of a table that has none of refusals 1 to 7, or none.
-fn table_number(counts: &[usize], payoffs: &[f64]) -> UsizeOption
+fn table_number(counts: &[usize], payoffs: &[f64]) -> Option<usize>
     requires { Table counts.now payoffs.now }
-    ensures { option_usize result ≡ game_number catalogue (table_game counts.now payoffs.now) }
+    ensures { optional result ≡ game_number catalogue (table_game counts.now payoffs.now) }
 {
-    if two_by_two(counts) {
-        let ranks = Bimatrix {
-            first: player_ranks(payoffs, 0),
-            second: player_ranks(payoffs, 1),
-        };
-        if ranks.strictly_ranked() {
-            let keys = keys();
-            place(&keys, ranks.least_key())
-        } else {
-            UsizeOption::None
-        }
+    if !two_by_two(counts) {
+        return None;
+    }
+    let ranks = Bimatrix {
+        first: player_ranks(payoffs, 0),
+        second: player_ranks(payoffs, 1),
+    };
+    if ranks.strictly_ranked() {
+        place(&keys(), ranks.least_key())
     } else {
-        UsizeOption::None
+        None
     }
 }
 
-// The number of a strictly ranked 2 x 2 table in the catalogue, 0 to 143, none for any other table, or the first of refusals 1 to 7.
-pub fn number(counts: &[usize], payoffs: &[f64]) -> NumberResult
+// The number of a strictly ranked 2 x 2 table in the catalogue, 0 to 143, none for any other table,
+// or the first of refusals 1 to 7.
+pub fn number(counts: &[usize], payoffs: &[f64]) -> Result<Option<usize>, NormalFormError>
     ensures { told_number result ≡ number_answer counts.now payoffs.now }
 {
-    match table::table_profile_count(counts, payoffs) {
-        UsizeResult::Err(e) => NumberResult::Err(e),
-        UsizeResult::Ok(_) => NumberResult::Ok(table_number(counts, payoffs)),
-    }
+    table::table_profile_count(counts, payoffs)?;
+    Ok(table_number(counts, payoffs))
 }

@@ -1,19 +1,20 @@
-// The deposit file: a table as bytes. The format is document 01's, "The deposit file"; its definition stands in specs/Deposit, on the words of
-// `words`. Reading and writing undo each other, bits and all: proofs/Back. `deposit_reader` and `deposit_writer` have the calls; here are the
+// The deposit file: a table as bytes. The format is document 01's, "The deposit file"; its
+// definition stands in specs/Deposit, on the words of `words`. Reading and writing undo each other,
+// bits and all: proofs/Back. `deposit_reader` and `deposit_writer` have the calls; here are the
 // numbers that both use, and the opening word.
 #![tactic(auto)]
 
 ghost use Rattle.std.specs.Prelude.{◌≡◌};
 ghost use Rattle.refusal.specs.Refusal.{◌then◌};
-ghost use Rattle.refusal.specs.Told.{told_usize, unless};
+ghost use Rattle.refusal.specs.Told.{told, unless};
 ghost use Rattle.file_words.specs.Words.{words_of};
 ghost use Rattle.file_words.specs.Faults.{length_fault};
 ghost use Rattle.deposit_format.specs.Deposit.{players_in, opening_fault};
 
-use refusal::{NormalFormError, UnitResult, UsizeResult};
+use refusal::NormalFormError;
 use table::MAX_PLAYERS;
 
-// The kinds of an opening word, a count and a part of a payoff.
+// The kinds of an opening word, a count and a part of a payoff, as `words::due` takes them.
 pub const OPENING: u32 = 0;
 
 pub const COUNT: u32 = 1;
@@ -29,26 +30,20 @@ pub const PLAYER_NUMBERS: usize = 256;
 pub const CELL_WORDS: usize = 3;
 
 // P, or 17 of the length, and 17, 18, 19, 1 or 2 of the opening word.
-pub fn opening(bytes: &[u8]) -> UsizeResult
-    ensures { told_usize result ≡ unless (length_fault bytes.now then opening_fault (words_of bytes.now)) (players_in (words_of bytes.now)) }
+pub fn opening(bytes: &[u8]) -> Result<usize, NormalFormError>
+    ensures { told result ≡ unless (length_fault bytes.now then opening_fault (words_of bytes.now)) (players_in (words_of bytes.now)) }
 {
-    match words::whole(bytes) {
-        UnitResult::Err(e) => UsizeResult::Err(e),
-        UnitResult::Ok => match words::due(bytes, 0, OPENING) {
-            UsizeResult::Err(e) => UsizeResult::Err(e),
-            UsizeResult::Ok(payload) => {
-                if payload / PLAYER_NUMBERS != EDITION {
-                    return UsizeResult::Err(NormalFormError::WrongPayload);
-                }
-                let players = payload % PLAYER_NUMBERS;
-                if players == 0 {
-                    return UsizeResult::Err(NormalFormError::NoPlayers);
-                }
-                if MAX_PLAYERS < players {
-                    return UsizeResult::Err(NormalFormError::TooManyPlayers);
-                }
-                UsizeResult::Ok(players)
-            }
-        },
+    words::whole(bytes)?;
+    let payload = words::due(bytes, 0, OPENING)?;
+    if payload / PLAYER_NUMBERS != EDITION {
+        return Err(NormalFormError::WrongPayload);
     }
+    let players = payload % PLAYER_NUMBERS;
+    if players == 0 {
+        return Err(NormalFormError::NoPlayers);
+    }
+    if MAX_PLAYERS < players {
+        return Err(NormalFormError::TooManyPlayers);
+    }
+    Ok(players)
 }

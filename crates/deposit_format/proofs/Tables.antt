@@ -6,8 +6,7 @@ use Prim.Native.Nat.{ℕ, ◌+◌, ◌<◌, ◌≤◌}
 use native.Mathlib.Omega.{arith}
 use borrow.Author.Tests.{le-ltb, ne_eqb}
 use lib.Dec.{ltb}
-use lib.ListN.{length, get_or, take, length-map}
-use lib.Seq.{length-take-le, get_or-take, ext_get_or}
+use lib.ListN.{length, get_or, length-map}
 use lib.Ieee.{nan}
 use Rattle.game.specs.Finite.{below}
 use Rattle.game.proofs.Finite.{length_below}
@@ -18,7 +17,6 @@ use Rattle.payoff_tables.specs.Limits.{max_players, max_cells}
 use Rattle.payoff_tables.specs.Table.{cells}
 use Rattle.payoff_tables.specs.Checks.{count_refusal, counts_refusal}
 use Rattle.payoff_tables.proofs.Offsets.{get_or_map, get_or_below}
-use Rattle.table.proofs.Space.{Filled}
 use Rattle.file_words.specs.Words.{payload_at}
 use Rattle.deposit_format.specs.Deposit.{players_in, counts_in, cell_place, payoff_in, payoffs_in}
 
@@ -42,12 +40,6 @@ module _ (ws : List ℕ) where
   payoffs_at i h =
       get_or_map (λ i. payoff_in ws (cell_place ws i)) (below (cells (counts_in ws))) i 0 nan (rw length_below h)
       ∙ ap (λ (j : ℕ). payoff_in ws (cell_place ws j)) (get_or_below (cells (counts_in ws)) i h)
-
--- as many places of a list as there are counts hold the counts
-pub filled_counts : (cs : List ℕ) (p : ℕ) (xs : List ℕ) → p ≡ length cs → p ≤ max_players → Filled cs p xs → take p xs ≡ cs
-filled_counts cs p xs e h f =
-    let size : length (take p xs) ≡ p = length-take-le p xs (omega (arith, h, f.size)) in
-    ext_get_or 0 (take p xs) cs (size ∙ e) (λ i l. get_or-take p xs i 0 (omega (arith, l, size)) ∙ f.done i (omega (arith, l, size)))
 
 -- where no count is refused, and P is not, 5 is what may be left
 pub counts_left : (cs : List ℕ) → 0 < length cs → length cs ≤ max_players → ((p : ℕ) → p < length cs → count_refusal (get_or cs p 0) ≡ none)

@@ -1,5 +1,6 @@
--- Words put one after the other are their list put at once (`put-more`), and from the first place on they stand before the old rest (`put_whole`).
--- So the words of a table's file are the file (`file-put`). Assumes nothing.
+-- Words put one after the other are their list put at once (`put-more`), and from the first place
+-- on they stand before the old rest (`put_whole`). So the words of a table's file are the file
+-- (`file-put`). Assumes nothing.
 use mathlib.Core.Path.{◌≡◌, refl, sym, ap, ◌∙◌}
 use mathlib.Core.List.{List, [], ◌∷◌, ◌++◌, map, flat_map, append_assoc, append-nil, map-append}
 use Prim.Native.Nat.{ℕ, suc, ◌+◌, ◌*◌, ◌/◌, ◌%◌, ◌^◌, ◌<◌, ◌≤◌}
@@ -7,7 +8,10 @@ use native.Mathlib.Nat.{add-zero, zero-add, add-suc, suc-add}
 use native.Mathlib.Numerals.{add-one}
 use native.Mathlib.Omega.{arith}
 use lib.ListN.{length, get_or, set, take, drop, length-map}
-use lib.Seq.{sets, sets-eq, length-sets, take-suc, length-take-le}
+use lib.Seq.{sets, sets-eq, length-sets, take-suc, take-length, length-take-le}
+use borrow.Rule.Slice.PartMut.{put_mid}
+use Rattle.std.proofs.lemmas.Slice.{put_mid-paste}
+use Rattle.std.specs.Int.{w32, w64, to_be_bytes}
 use lib.Ieee.{Float, nan}
 use Rattle.game.proofs.Finite.{flat_map_last}
 use Rattle.written_lists.specs.Outputs.{over}
@@ -47,31 +51,25 @@ pub put_whole : (bytes ws : List ℕ) → length ws * 4 ≤ length bytes → wor
 put_whole bytes ws h =
     sets-eq (bytes_of ws) bytes 0 (omega (arith, h, bytes_length ws)) ∙ ap (λ (n : ℕ). bytes_of ws ++ drop n bytes) (zero-add (length (bytes_of ws)))
 
+-- ---- bytes copied over a part of an output
+
+pub part_stores : (bytes : List ℕ) (at k : ℕ) (vs : List ℕ) → k ≡ length vs → at + length vs ≤ length bytes → put_mid at k bytes vs ≡ sets bytes at vs
+part_stores bytes at k vs e h =
+    put_mid-paste at k bytes vs vs (length vs) refl (sym e) refl
+    ∙ ap (λ (r : List ℕ). take at bytes ++ r ++ drop (at + length vs) bytes) (take-length vs)
+    ∙ sym (sets-eq vs bytes at h)
+
 -- ---- the four bytes of a word
 
-pub four_stores : (bytes : List ℕ) (at a b c d : ℕ)
-    → set (set (set (set bytes at a) (at + 1) b) (at + 2) c) (at + 3) d ≡ sets bytes at (a ∷ b ∷ c ∷ d ∷ [])
-four_stores bytes at a b c d =
-    let one : at + 1 ≡ suc at = omega arith in
-    let two : at + 2 ≡ suc (suc at) = omega arith in
-    let three : at + 3 ≡ suc (suc (suc at)) = omega arith in
-    rw (one, two, three) refl
-
-pub word_stores : (bytes : List ℕ) (place k n : ℕ)
-    → sets bytes (4 * place) (word_bytes (word k n)) ≡ words_put bytes place (word k n ∷ [])
+pub word_stores : (bytes : List ℕ) (place w : ℕ) → sets bytes (4 * place) (word_bytes w) ≡ words_put bytes place (w ∷ [])
 unfolding bytes_of flat_map
-word_stores bytes place k n = ap (λ (r : List ℕ). sets bytes (4 * place) r) (sym (append-nil (word_bytes (word k n))))
+word_stores bytes place w = ap (λ (r : List ℕ). sets bytes (4 * place) r) (sym (append-nil (word_bytes w)))
+
+pub be_word : (w : ℕ) → w < 2 ^ 32 → to_be_bytes w32 w ≡ word_bytes w
+unfolding word_bytes
+be_word w h = let first : w / 2 ^ 24 % 256 ≡ w / 2 ^ 24 = omega (arith, h) in rw first refl
 
 -- ---- the eight bytes of two words, which are one number
-
-pub eight_stores : (bytes : List ℕ) (at a b c d e f g h : ℕ)
-    → set (set (set (set (set (set (set (set bytes at a) (at + 1) b) (at + 2) c) (at + 3) d) (at + 4) e) (at + 5) f) (at + 6) g) (at + 7) h ≡ sets bytes at (a ∷ b ∷ c ∷ d ∷ e ∷ f ∷ g ∷ h ∷ [])
-eight_stores bytes at a b c d e f g h =
-    let five : at + 5 ≡ at + 4 + 1 = omega arith in
-    let six : at + 6 ≡ at + 4 + 2 = omega arith in
-    let seven : at + 7 ≡ at + 4 + 3 = omega arith in
-    rw (four_stores bytes at a b c d, five, six, seven)
-    (four_stores (sets bytes at (a ∷ b ∷ c ∷ d ∷ [])) (at + 4) e f g h ∙ sym (sets_append (a ∷ b ∷ c ∷ d ∷ []) (e ∷ f ∷ g ∷ h ∷ []) bytes at))
 
 pub pair_bytes : (n : ℕ) → bytes_of (n / 2 ^ 32 ∷ n % 2 ^ 32 ∷ []) ≡ n / 2 ^ 56 ∷ n / 2 ^ 48 % 256 ∷ n / 2 ^ 40 % 256 ∷ n / 2 ^ 32 % 256 ∷ n / 2 ^ 24 % 256 ∷ n / 2 ^ 16 % 256 ∷ n / 2 ^ 8 % 256 ∷ n % 256 ∷ []
 unfolding bytes_of flat_map word_bytes
@@ -97,6 +95,9 @@ pair_bytes n = rw (first, second, third, fifth, sixth, seventh, eighth) refl
 
     eighth : n % 2 ^ 32 % 256 ≡ n % 256
     eighth = omega arith
+
+pub be_pair : (n : ℕ) → n < 2 ^ 64 → to_be_bytes w64 n ≡ bytes_of (n / 2 ^ 32 ∷ n % 2 ^ 32 ∷ [])
+be_pair n h = let first : n / 2 ^ 56 % 256 ≡ n / 2 ^ 56 = omega (arith, h) in rw (pair_bytes n, first) refl
 
 -- ---- the counts, and the payoffs
 

@@ -1,4 +1,5 @@
--- What an output holds after words were put into it, for the contracts of the writer's inner functions. Assumes nothing.
+-- What an output holds after words were put into it, for the contracts of the writer's inner
+-- functions. Assumes nothing.
 use Rattle.std.specs.Prelude.{List, ℕ, ◌*◌}
 use Rattle.std.proofs.lemmas.List.Edits.{sets}
 use Rattle.file_words.specs.Words.{bytes_of}

@@ -5,7 +5,7 @@ ghost use Rattle.std.specs.Prelude.{◌≡◌, ◌+◌, ◌*◌, ◌/◌, ◌%�
 ghost use mathlib.Core.List.{[], ◌∷◌, map, flat_map};
 ghost use Rattle.std.specs.Float.{binary64};
 ghost use Rattle.std.specs.Float.Ieee.{to_bits};
-ghost use Rattle.refusal.specs.Told.{told_usize};
+ghost use Rattle.refusal.specs.Told.{told};
 ghost use Rattle.payoff_order.specs.Order.{finite};
 ghost use Rattle.payoff_tables.specs.Meaning.{Shape, Finites};
 ghost use Rattle.file_words.specs.Words.{payloads, word};
@@ -14,7 +14,7 @@ ghost use Rattle.deposit_format.specs.Answers.{write_answer, write_bytes};
 ghost use Rattle.deposit_writer.specs.Put.{words_put};
 
 use deposit::{CELL, CELL_WORDS, COUNT, EDITION, OPENING, PLAYER_NUMBERS};
-use refusal::{NormalFormError, UsizeResult};
+use refusal::NormalFormError;
 use words::{CLOSING, WORD_BYTES};
 
 // How many payloads there are, as a part of a payoff's bits, and the kinds of two words of a cell.
@@ -29,10 +29,7 @@ fn put_word(bytes: &mut [u8], place: usize, kind: u32, payload: u32)
 {
     let word = kind * words::PAYLOADS + payload;
     let at = WORD_BYTES * place;
-    bytes[at] = (word / 0x1000000) as u8;
-    bytes[at + 1] = (word / 0x10000 % 0x100) as u8;
-    bytes[at + 2] = (word / 0x100 % 0x100) as u8;
-    bytes[at + 3] = (word % 0x100) as u8;
+    bytes[at..at + WORD_BYTES].copy_from_slice(&word.to_be_bytes());
 }
 
 // Puts the count words.
@@ -40,15 +37,14 @@ fn write_counts(counts: &[usize], bytes: &mut [u8])
     requires { Shape counts.now × (4 + length counts.now * 4 ≤ length bytes.old) }
     ensures { bytes.new ≡ words_put bytes.old 1 (map (word count_kind) counts.now) }
 {
-    let mut p = 0;
-    while p < counts.len() {
-        put_word(bytes, 1 + p, COUNT, counts[p] as u32);
-        p += 1;
+    for (p, count) in counts.iter().enumerate() {
+        put_word(bytes, 1 + p, COUNT, *count as u32);
     }
 }
 
-// The second and the third word of a finite payoff, as one number. The test is always passed: behind it the number is one value to the compiler,
-// which then stores its eight bytes at once, and not one by one.
+// The second and the third word of a finite payoff, as one number. The test is always passed:
+// behind it the number is one value to the compiler, which then stores its eight bytes at once, and
+// not one by one. Three calls of `put_word` in place of it were tried, and took twice the time.
 fn pair(x: f64) -> u64
     requires { T (finite x) }
     ensures { result ≡ word cell_kind (to_bits binary64 x / payloads % payloads) * 2 ^ 32 + word cell_kind (to_bits binary64 x % payloads) }
@@ -67,14 +63,7 @@ fn put_pair(bytes: &mut [u8], place: usize, pair: u64)
     ensures { bytes.new ≡ words_put bytes.old place (pair / 2 ^ 32 ∷ pair % 2 ^ 32 ∷ []) }
 {
     let at = WORD_BYTES * place;
-    bytes[at] = (pair / 0x100000000000000) as u8;
-    bytes[at + 1] = (pair / 0x1000000000000 % 0x100) as u8;
-    bytes[at + 2] = (pair / 0x10000000000 % 0x100) as u8;
-    bytes[at + 3] = (pair / 0x100000000 % 0x100) as u8;
-    bytes[at + 4] = (pair / 0x1000000 % 0x100) as u8;
-    bytes[at + 5] = (pair / 0x10000 % 0x100) as u8;
-    bytes[at + 6] = (pair / 0x100 % 0x100) as u8;
-    bytes[at + 7] = (pair % 0x100) as u8;
+    bytes[at..at + 2 * WORD_BYTES].copy_from_slice(&pair.to_be_bytes());
 }
 
 // Puts the three words of a payoff at a place.
@@ -92,37 +81,32 @@ fn write_payoffs(payoffs: &[f64], start: usize, bytes: &mut [u8])
     requires { Finites payoffs.now × (4 * start + length payoffs.now * 12 ≤ length bytes.old) }
     ensures { bytes.new ≡ words_put bytes.old start (flat_map payoff_words payoffs.now) }
 {
-    let mut i = 0;
-    while i < payoffs.len() {
-        put_payoff(payoffs[i], start + CELL_WORDS * i, bytes);
-        i += 1;
+    for (i, payoff) in payoffs.iter().enumerate() {
+        put_payoff(*payoff, start + CELL_WORDS * i, bytes);
     }
 }
 
-// The number of bytes of the table's file, written to the output; or the first of 1 to 7, then 13, and nothing written.
-pub fn write(counts: &[usize], payoffs: &[f64], bytes: &mut [u8]) -> UsizeResult
-    ensures result_value { told_usize result ≡ write_answer counts.now payoffs.now bytes.old }
+// The number of bytes of the table's file, written to the output; or the first of 1 to 7, then 13,
+// and nothing written.
+pub fn write(counts: &[usize], payoffs: &[f64], bytes: &mut [u8]) -> Result<usize, NormalFormError>
+    ensures result_value { told result ≡ write_answer counts.now payoffs.now bytes.old }
     ensures bytes_after { bytes.new ≡ write_bytes counts.now payoffs.now bytes.old }
 {
-    match table::table_profile_count(counts, payoffs) {
-        UsizeResult::Err(e) => UsizeResult::Err(e),
-        UsizeResult::Ok(_) => {
-            let start = 1 + counts.len();
-            let last = start + CELL_WORDS * payoffs.len();
-            let size = WORD_BYTES * (last + 1);
-            if bytes.len() < size {
-                return UsizeResult::Err(NormalFormError::OutputTooShort);
-            }
-            put_word(
-                bytes,
-                0,
-                OPENING,
-                (EDITION * PLAYER_NUMBERS + counts.len()) as u32,
-            );
-            write_counts(counts, bytes);
-            write_payoffs(payoffs, start, bytes);
-            put_word(bytes, last, CLOSING, last as u32);
-            UsizeResult::Ok(size)
-        }
+    table::table_profile_count(counts, payoffs)?;
+    let start = 1 + counts.len();
+    let last = start + CELL_WORDS * payoffs.len();
+    let size = WORD_BYTES * (last + 1);
+    if bytes.len() < size {
+        return Err(NormalFormError::OutputTooShort);
     }
+    put_word(
+        bytes,
+        0,
+        OPENING,
+        (EDITION * PLAYER_NUMBERS + counts.len()) as u32,
+    );
+    write_counts(counts, bytes);
+    write_payoffs(payoffs, start, bytes);
+    put_word(bytes, last, CLOSING, last as u32);
+    Ok(size)
 }

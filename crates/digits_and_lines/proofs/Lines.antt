@@ -1,11 +1,11 @@
 -- Words one after the other, and numbers as words. Assumes nothing.
 use mathlib.Core.Path.{◌≡◌, refl, sym, ap, ◌∙◌}
 use mathlib.Core.List.{List, [], ◌∷◌, ◌++◌, map, map-append, append-nil, append_assoc}
-use Prim.Native.Nat.{ℕ, suc, ◌+◌, ◌-◌, ◌<◌}
+use Prim.Native.Nat.{ℕ, ◌+◌, ◌<◌}
 use native.Mathlib.Numerals.{add-one}
 use native.Mathlib.Omega.{arith}
-use lib.ListN.{length, get_or, take, drop}
-use lib.Seq.{take-suc, take_all}
+use lib.ListN.{length, get_or, take}
+use lib.Seq.{take-suc}
 use Rattle.game.proofs.Finite.{flat_map_append}
 use Rattle.digits_and_lines.specs.Text.{decimal, space, spaced, joined, line}
 
@@ -33,16 +33,11 @@ spaced_next {A = A} f xs d i h =
     ∙ spaced_append (map f (take i xs)) (f x ∷ [])
     ∙ ap (λ (ys : List ℕ). spaced (map f (take i xs)) ++ ys) (spaced_one (f x)))
 
--- of no number both texts are empty; else the first number stands with no space before it
-pub joined_none : (ns : List ℕ) → length ns ≡ 0 → spaced (map decimal ns) ≡ joined (map decimal ns)
-unfolding joined spaced
+-- of no number the text is empty
+pub joined_none : (ns : List ℕ) → length ns ≡ 0 → [] ≡ joined (map decimal ns)
+unfolding joined
 joined_none [] h = refl
 joined_none (n ∷ ns) h = absurd (omega (arith, h))
-
-pub joined_some : (ns : List ℕ) → 0 < length ns → decimal (get_or ns 0 0) ++ spaced (map decimal (take (length ns - 1) (drop 1 ns))) ≡ joined (map decimal ns)
-unfolding joined
-joined_some [] h = absurd (omega (arith, h))
-joined_some (n ∷ ns) h = ap (λ (ms : List ℕ). decimal n ++ spaced (map decimal ms)) (take_all (suc (length ns) - 1) ns (omega arith))
 
 -- a line of the words 1 and 2
 two_words : line ((49 ∷ []) ∷ (50 ∷ []) ∷ []) ≡ 49 ∷ 32 ∷ 50 ∷ 10 ∷ []

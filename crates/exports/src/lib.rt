@@ -31,7 +31,6 @@ ghost use Rattle.c_answers.specs.Status.{output, beside, some_byte, or_zero, par
 ghost use Rattle.exports.specs.Interface.{interface};
 
 use candidates::Claim;
-use refusal::{UnitResult, UsizeResult};
 use response_list::BestResponse;
 use table::{MAX_MARKS, MAX_PLAYERS, StrategySpace};
 use utility::Utility;
@@ -54,7 +53,8 @@ pub extern "C" fn sigvanyor_utility_new(value: f64, utility: &mut f64) -> u32
     ensures value { result ≡ status (utility_answer value) }
     ensures utility_after { utility.new ≡ output (utility_answer value) utility.old }
 {
-    c_outputs::utility_into(Utility::new(value), utility)
+    let answer = Utility::new(value).map(|u| u.value());
+    c_outputs::value_into(answer, utility)
 }
 
 // `all_finite`: whether every value is finite.
@@ -105,7 +105,7 @@ pub extern "C" fn sigvanyor_offset(
     ensures value { result ≡ status (offset_answer counts.now payoffs.now profile.now) }
     ensures offset_after { offset.new ≡ output (offset_answer counts.now payoffs.now profile.now) offset.old }
 {
-    c_outputs::usize_into(table::offset(counts, payoffs, profile), offset)
+    c_outputs::value_into(table::offset(counts, payoffs, profile), offset)
 }
 
 // `payoff`: the player's payoff at the profile into `utility`, or 1 to 7, 8, 11, 12.
@@ -120,10 +120,12 @@ pub extern "C" fn sigvanyor_payoff(
     ensures value { result ≡ status (payoff_answer counts.now payoffs.now profile.now player) }
     ensures utility_after { utility.new ≡ output (payoff_answer counts.now payoffs.now profile.now player) utility.old }
 {
-    c_outputs::utility_into(table::payoff(counts, payoffs, profile, player), utility)
+    let answer = table::payoff(counts, payoffs, profile, player).map(|u| u.value());
+    c_outputs::value_into(answer, utility)
 }
 
-// `profile_payoffs`: the part's first place into `first` and its length into `number`, or 1 to 7, 11, 12.
+// `profile_payoffs`: the part's first place into `first` and its length into `number`, or 1 to 7,
+// 11, 12.
 #[unsafe(no_mangle)]
 pub extern "C" fn sigvanyor_profile_payoffs(
     counts: &[usize],
@@ -137,12 +139,12 @@ pub extern "C" fn sigvanyor_profile_payoffs(
     ensures number_after { number.new ≡ output (part_length counts.now payoffs.now profile.now) number.old }
 {
     match table::offset(counts, payoffs, profile) {
-        UsizeResult::Ok(at) => {
+        Ok(at) => {
             *first = at * counts.len();
             *number = counts.len();
             0
         }
-        UsizeResult::Err(e) => e.number(),
+        Err(e) => e.number(),
     }
 }
 
@@ -162,8 +164,8 @@ pub extern "C" fn sigvanyor_advance_profile(
     stepped.more
 }
 
-// `best_responses`: the strategies into `strategies`, the payoff of each into `utilities`, and how many there are into `number`, or 1 to 7, 8,
-// 9, 10, 13.
+// `best_responses`: the strategies into `strategies`, the payoff of each into `utilities`, and how
+// many there are into `number`, or 1 to 7, 8, 9, 10, 13.
 #[unsafe(no_mangle)]
 pub extern "C" fn sigvanyor_best_responses(
     counts: &[usize],
@@ -182,10 +184,11 @@ pub extern "C" fn sigvanyor_best_responses(
     let answer = best_response::best_responses(
         counts, payoffs, player, opponents, strategies, utilities,
     );
-    c_outputs::usize_into(answer, number)
+    c_outputs::value_into(answer, number)
 }
 
-// `response_list::best_responses`: a record for each into `responses`, and how many there are into `number`, or 1 to 7, 8, 9, 10, 13.
+// `response_list::best_responses`: a record for each into `responses`, and how many there are into
+// `number`, or 1 to 7, 8, 9, 10, 13.
 #[unsafe(no_mangle)]
 pub extern "C" fn sigvanyor_best_response_records(
     counts: &[usize],
@@ -200,7 +203,7 @@ pub extern "C" fn sigvanyor_best_response_records(
         × (number.new ≡ output (records_answer counts.now payoffs.now player opponents.now (length responses.old)) number.old) }
 {
     let answer = response_list::best_responses(counts, payoffs, player, opponents, responses);
-    c_outputs::usize_into(answer, number)
+    c_outputs::value_into(answer, number)
 }
 
 // `is_equilibrium`: whether the profile is an equilibrium into `equilibrium`, as 1 or 0, or 1 to 7,
@@ -215,14 +218,13 @@ pub extern "C" fn sigvanyor_is_equilibrium(
     ensures value { result ≡ status (is_equilibrium_answer counts.now payoffs.now profile.now) }
     ensures equilibrium_after { equilibrium.new ≡ output (told_of byte_of (is_equilibrium_answer counts.now payoffs.now profile.now)) equilibrium.old }
 {
-    c_outputs::bool_into(
-        pure_nash::is_equilibrium(counts, payoffs, profile),
-        equilibrium,
-    )
+    let answer = pure_nash::is_equilibrium(counts, payoffs, profile).map(|is| u8::from(is));
+    c_outputs::value_into(answer, equilibrium)
 }
 
-// `equilibria`: the choices of the first that both outputs hold whole into `choices`, their payoffs into `utilities`, how many there are into
-// `total`, and how many are written into `written`, or 1 to 7.
+// `equilibria`: the choices of the first that both outputs hold whole into `choices`, their payoffs
+// into `utilities`, how many there are into `total`, and how many are written into `written`, or 1
+// to 7.
 #[unsafe(no_mangle)]
 pub extern "C" fn sigvanyor_equilibria(
     counts: &[usize],
@@ -242,7 +244,8 @@ pub extern "C" fn sigvanyor_equilibria(
     c_outputs::listing_into(answer, total, written)
 }
 
-// `best_response_marks`: a byte for each cell into `marks`, and how many are 1 into `number`, or 1 to 7, 13.
+// `best_response_marks`: a byte for each cell into `marks`, and how many are 1 into `number`, or 1
+// to 7, 13.
 #[unsafe(no_mangle)]
 pub extern "C" fn sigvanyor_best_response_marks(
     counts: &[usize],
@@ -256,10 +259,11 @@ pub extern "C" fn sigvanyor_best_response_marks(
     ensures by_index { (n : ℕ) → marks_answer counts.now payoffs.now (length marks.old) ≡ values n → Counted counts.now n marks.new }
 {
     let answer = mark_responses::best_response_marks(counts, payoffs, marks);
-    c_outputs::usize_into(answer, number)
+    c_outputs::value_into(answer, number)
 }
 
-// `marked_profiles`: as `equilibria`, of the profiles that have no 0 among their marks, or 1 to 7, 13.
+// `marked_profiles`: as `equilibria`, of the profiles that have no 0 among their marks, or 1 to 7,
+// 13.
 #[unsafe(no_mangle)]
 pub extern "C" fn sigvanyor_marked_profiles(
     counts: &[usize],
@@ -280,8 +284,8 @@ pub extern "C" fn sigvanyor_marked_profiles(
     c_outputs::listing_into(answer, total, written)
 }
 
-// `strictly_dominated_strategies`: the dominated strategies into `dominated`, the lowest dominator of each into `dominators`, and how many
-// there are into `number`, or 1 to 7, 8, 13.
+// `strictly_dominated_strategies`: the dominated strategies into `dominated`, the lowest dominator
+// of each into `dominators`, and how many there are into `number`, or 1 to 7, 8, 13.
 #[unsafe(no_mangle)]
 pub extern "C" fn sigvanyor_strictly_dominated_strategies(
     counts: &[usize],
@@ -299,10 +303,11 @@ pub extern "C" fn sigvanyor_strictly_dominated_strategies(
     let answer = strict_dominance::strictly_dominated_strategies(
         counts, payoffs, player, dominated, dominators,
     );
-    c_outputs::usize_into(answer, number)
+    c_outputs::value_into(answer, number)
 }
 
-// `fresh`: P, the counts with 0 from P on and the marks of the table's fresh survivors into the last three outputs, or 1 to 7.
+// `fresh`: P, the counts with 0 from P on and the marks of the table's fresh survivors into the
+// last three outputs, or 1 to 7.
 #[unsafe(no_mangle)]
 pub extern "C" fn sigvanyor_fresh(
     counts: &[usize],
@@ -317,18 +322,18 @@ pub extern "C" fn sigvanyor_fresh(
     ensures survivors_marks_after { survivors_marks.new ≡ output (unless (table_refusal counts.now payoffs.now) (mark_bytes (fresh_of counts.now))) survivors_marks.old }
 {
     let made = survivors::fresh(counts, payoffs);
-    let answer = made.answer;
     let left = made.survivors;
-    match answer {
-        UnitResult::Ok => {
+    match made.answer {
+        Ok(()) => {
             c_outputs::survivors_into(left, survivors_players, survivors_counts, survivors_marks);
             0
         }
-        UnitResult::Err(e) => e.number(),
+        Err(e) => e.number(),
     }
 }
 
-// `strike`: the lowest dominator into `dominator` and the survivors' marks into `survivors_marks`, or 1 to 7, 16, 8, 14, 15.
+// `strike`: the lowest dominator into `dominator` and the survivors' marks into `survivors_marks`,
+// or 1 to 7, 16, 8, 14, 15.
 #[unsafe(no_mangle)]
 pub extern "C" fn sigvanyor_strike(
     counts: &[usize],
@@ -347,17 +352,16 @@ pub extern "C" fn sigvanyor_strike(
     let held = *survivors_marks;
     let before = c_outputs::survivors_of(survivors_players, survivors_counts, &held);
     let struck = survivor_calls::strike(counts, payoffs, before, player, strategy);
-    let answer = struck.answer;
     let left = struck.survivors;
-    match answer {
-        UsizeResult::Ok(t) => {
+    match struck.answer {
+        Ok(t) => {
             let marks = left.marks;
             let bytes = c_outputs::bytes_of(marks);
             *dominator = t;
             *survivors_marks = bytes;
             0
         }
-        UsizeResult::Err(e) => e.number(),
+        Err(e) => e.number(),
     }
 }
 
@@ -385,8 +389,9 @@ pub extern "C" fn sigvanyor_surviving_equilibria(
     c_outputs::listing_into(answer, total, written)
 }
 
-// `strikes`: the answer to each strike into `answers`, its dominator into `dominators`, how many were accepted into `number`, and P, the counts
-// and the marks of the survivors into the last three outputs, or 1 to 7, 13.
+// `strikes`: the answer to each strike into `answers`, its dominator into `dominators`, how many
+// were accepted into `number`, and P, the counts and the marks of the survivors into the last three
+// outputs, or 1 to 7, 13.
 #[unsafe(no_mangle)]
 pub extern "C" fn sigvanyor_strikes(
     counts: &[usize],
@@ -409,19 +414,19 @@ pub extern "C" fn sigvanyor_strikes(
     ensures survivors_marks_after { survivors_marks.new ≡ beside (strikes_answer counts.now payoffs.now (calls_of players.now strategies.now) (length answers.old) (length dominators.old)) (mark_bytes (strikes_leave counts.now payoffs.now (calls_of players.now strategies.now) (length answers.old) (length dominators.old))) survivors_marks.old }
 {
     let struck = strike_lists::strikes(counts, payoffs, players, strategies, answers, dominators);
-    let answer = struck.answer;
     let left = struck.survivors;
-    match answer {
-        UsizeResult::Ok(accepted) => {
+    match struck.answer {
+        Ok(accepted) => {
             *number = accepted;
             c_outputs::survivors_into(left, survivors_players, survivors_counts, survivors_marks);
             0
         }
-        UsizeResult::Err(e) => e.number(),
+        Err(e) => e.number(),
     }
 }
 
-// `read`: the counts and the payoffs of a deposit file into `counts` and `payoffs`, and P into `players`, or 17 to 20, 1 to 5, 7, 13.
+// `read`: the counts and the payoffs of a deposit file into `counts` and `payoffs`, and P into
+// `players`, or 17 to 20, 1 to 5, 7, 13.
 #[unsafe(no_mangle)]
 pub extern "C" fn sigvanyor_read(
     bytes: &[u8],
@@ -435,10 +440,11 @@ pub extern "C" fn sigvanyor_read(
     ensures payoffs_after { payoffs.new ≡ read_payoffs bytes.now counts.old payoffs.old }
 {
     let answer = deposit_reader::read(bytes, counts, payoffs);
-    c_outputs::usize_into(answer, players)
+    c_outputs::value_into(answer, players)
 }
 
-// `write`: the deposit file of a table into `bytes`, and the number of its bytes into `number`, or 1 to 7, 13.
+// `write`: the deposit file of a table into `bytes`, and the number of its bytes into `number`, or
+// 1 to 7, 13.
 #[unsafe(no_mangle)]
 pub extern "C" fn sigvanyor_write(
     counts: &[usize],
@@ -451,7 +457,7 @@ pub extern "C" fn sigvanyor_write(
     ensures bytes_after { bytes.new ≡ write_bytes counts.now payoffs.now bytes.old }
 {
     let answer = deposit_writer::write(counts, payoffs, bytes);
-    c_outputs::usize_into(answer, number)
+    c_outputs::value_into(answer, number)
 }
 
 // `number`: whether the table has a catalogue number into `listed`, as 1 or 0, and the number, 0

@@ -1,5 +1,7 @@
-// The gains of a player who changes one strategy for another, and the greatest of them. A player has `count` strategies and the other one
-// `others`; the number of own strategy s and the other's o stands at s × own + o × other in a table.
+// The gains of a player who changes one strategy for another, and the greatest of them. A player
+// has `count` strategies and the other one `others`; the number of own strategy s and the other's o
+// stands at s × own + o × other in a table. These are parameters one by one, here and in
+// `mixed_strategies`: the clauses name them, and public functions keep theirs.
 #![tactic(auto)]
 
 ghost use Rattle.std.specs.Prelude.{◌≡◌, not, map, ◌<◌, ◌≤◌, eqb, length, get_or};
@@ -28,12 +30,10 @@ fn raised_by(best: f64, gains: &[f64], count: usize, own: usize) -> f64
     ensures { result ≡ raise_all best (map (λ t. get_or gains.now t nan) (filter (λ t. not (eqb t own)) (below count))) }
 {
     let mut top = best;
-    let mut t = 0;
-    while t < count {
+    for (t, gain) in gains[..count].iter().enumerate() {
         if t != own {
-            top = raised(top, gains[t]);
+            top = raised(top, *gain);
         }
-        t += 1;
     }
     top
 }
@@ -55,8 +55,7 @@ fn raised_from(
     ensures { result ≡ raise_all best (gains_from (strided weights.now own other) (strided payoffs.now own other) (below others) count s) }
 {
     let mut gains = [0.0; MAX_ACTIONS];
-    let mut o = 0;
-    while o < others {
+    for o in 0..others {
         let first = o * other;
         let place = s * own + first;
         sums::add_terms(
@@ -68,13 +67,13 @@ fn raised_from(
             first,
             own,
         );
-        o += 1;
     }
     raised_by(best, &gains, count, s)
 }
 
-// The best so far, raised by all gains of a player; infinity is not raised any more. The caller proves that there are at most MAX_ACTIONS
-// strategies, that every payoff stands in the table, and that there are as many weights as payoffs.
+// The best so far, raised by all gains of a player; infinity is not raised any more. The caller
+// proves that there are at most MAX_ACTIONS strategies, that every payoff stands in the table, and
+// that there are as many weights as payoffs.
 pub fn raised_player(
     best: f64,
     payoffs: &[f64],
@@ -90,13 +89,11 @@ pub fn raised_player(
     ensures { result ≡ raise_all best (gains_of (strided weights.now own other) (strided payoffs.now own other) (below others) count) }
 {
     let mut top = best;
-    let mut s = 0;
-    while s < count {
+    for s in 0..count {
         if top == sums::infinity() {
             return top;
         }
         top = raised_from(top, payoffs, weights, s, count, own, others, other);
-        s += 1;
     }
     top
 }

@@ -1,5 +1,5 @@
 -- Player after player, from the last on. Assumes nothing.
-use mathlib.Core.Path.{◌≡◌, refl, sym, ap, ◌∙◌, subst}
+use mathlib.Core.Path.{◌≡◌, sym, ap, ◌∙◌, subst}
 use mathlib.Core.Bool.{Bool, true, false}
 use mathlib.Core.List.{List, []}
 use mathlib.Core.Logic.{inl, inr, ⊎_elim}
@@ -28,10 +28,6 @@ use Rattle.response_marks.proofs.Marks.{marks_length, marks_over}
 use Rattle.mark_responses.specs.Sweep.{choice_at, Ready, PlayerMarked, PlayersMarked}
 
 module _ (counts : List ℕ) (payoffs : List Float) (survivors : List Bool) (before : List ℕ) where
-  -- none yet
-  pub all_none : PlayersMarked counts payoffs survivors (length counts) before before
-  all_none = record { long = refl; done = λ k q h l m. absurd (omega arith); todo = λ k q h l m. refl; kept = λ c h. refl }
-
   -- a player that is not marked yet finds its bytes as they were
   pub still_ready : (p : ℕ) (marks : List ℕ) → p < length counts → Ready counts survivors p before → PlayersMarked counts payoffs survivors (p + 1) before marks
       → Ready counts survivors p marks

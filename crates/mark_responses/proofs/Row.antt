@@ -43,10 +43,6 @@ steps_more f xs cells n t h e =
 -- ---- the greatest of a row
 
 module _ (payoffs : List Float) (steps : List ℕ) (start : ℕ) where
-  pub greatest_one : (x : Float) → x ≡ get_or payoffs (start + get_or steps 0 0) nan → Greatest payoffs steps start 1 x
-  greatest_one x e =
-      record { at = 0; inside = omega arith; is = e; top = λ i h. let z : i ≡ 0 = omega arith in rw z (omega arith) }
-
   module _ {n : ℕ} {x : Float} (g : Greatest payoffs steps start n x) where
     -- one that does not exceed it changes nothing,
     greatest_old : step_rank payoffs steps start n ≤ step_rank payoffs steps start g.at → Greatest payoffs steps start (n + 1) x

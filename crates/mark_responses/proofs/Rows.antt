@@ -75,10 +75,6 @@ marked_none want W marks n = record { long = refl; on = λ c w. absurd (n c w); 
 -- ---- rows
 
 module _ (payoffs : List Float) (steps : List ℕ) where
-  -- no rows
-  pub rows_none : (S : ℕ → Type 0) (marks : List ℕ) → ((s : ℕ) → S s → ⊥) → RowsMarked payoffs steps S marks marks
-  rows_none S marks n want w = marked_none want (CellOf steps (length steps) S) marks (λ c (s, i, at, _, _). n s at)
-
   -- rows, and then more rows
   rows_then : (S R U : ℕ → Type 0) {before between marks : List ℕ} → ((s : ℕ) → S s → U s) → ((s : ℕ) → R s → U s) → ((s : ℕ) → U s → S s ⊎ R s)
       → RowsMarked payoffs steps S before between → RowsMarked payoffs steps R between marks → RowsMarked payoffs steps U before marks
@@ -93,9 +89,6 @@ module _ (payoffs : List Float) (steps : List ℕ) where
   module _ (start gap : ℕ) where
     abbrev Two : ℕ → Type 0
     Two = Spaced start gap 2
-
-    pub pair_none : (want : ℕ → Bool) (marks : List ℕ) → BytesMarked want (CellOf steps 0 Two) marks marks
-    pair_none want marks = marked_none want (CellOf steps 0 Two) marks (λ c (s, i, at, l, _). omega (arith, l))
 
     pub pair_more : (want : ℕ → Bool) → Wants payoffs steps Two want → {before marks : List ℕ} (n : ℕ) → n < length steps
         → BytesMarked want (CellOf steps n Two) before marks → (v u : ℕ)

@@ -1,5 +1,6 @@
-// The profiles in which a player chooses 0 and every other choice is marked, from one to the next, by their offsets: the rows that a strategy
-// is tested in. No choice without a mark is passed through, and no division is needed.
+// The profiles in which a player chooses 0 and every other choice is marked, from one to the next,
+// by their offsets: the rows that a strategy is tested in. No choice without a mark is passed
+// through, and no division is needed.
 #![tactic(auto)]
 
 ghost use Rattle.std.specs.Prelude.{◌≡◌, ◌+◌, ◌≤◌, ◌<◌, length};
@@ -11,25 +12,26 @@ ghost use Rattle.marked_rows.specs.Rows.{NextMark, Kept, MarkedRow, NextRow};
 
 use table::{MAX_PLAYERS, MAX_STRATEGIES};
 
-// The first strategy from `from` on, below `count`, that has a mark among those that start at `place`, or `count` where there is none.
+// The first strategy from `from` on, below `count`, that has a mark among those that start at
+// `place`, or `count` where there is none. No Option: it is no plainer, since `next_row` goes back
+// by a search that always finds one.
 fn next_mark(marks: &[bool], place: usize, from: usize, count: usize) -> usize
     requires from_le_count { from ≤ count }
     requires count_in_bounds { place + count ≤ length marks.now }
     ensures { NextMark marks.now place from count result }
 {
-    let mut s = from;
-    while s < count {
+    for s in from..count {
         if marks[place + s] {
             return s;
         }
-        s += 1;
     }
     count
 }
 
-// The lowest offset of a profile in which the player chooses 0 and every other choice is marked, or `profiles` where there is none. What each
-// other player chooses there goes into `choices`. The caller proves that the counts are a table's, that there are as many marks as there may
-// be and `profiles` is the number of profiles, and that the player is the table's.
+// The lowest offset of a profile in which the player chooses 0 and every other choice is marked, or
+// `profiles` where there is none. What each other player chooses there goes into `choices`. The
+// caller proves that the counts are a table's, that there are as many marks as there may be and
+// `profiles` is the number of profiles, and that the player is the table's.
 pub fn first_row(
     counts: &[usize],
     marks: &[bool],
@@ -47,9 +49,7 @@ pub fn first_row(
 {
     let mut at: usize = 0;
     let mut stride: usize = 1;
-    let mut q = counts.len();
-    while 0 < q {
-        q -= 1;
+    for q in (0..counts.len()).rev() {
         let count = counts[q];
         if q != player {
             let first = next_mark(marks, q * MAX_STRATEGIES, 0, count);
@@ -64,9 +64,10 @@ pub fn first_row(
     at
 }
 
-// The next such offset after `base`, which is one, or `profiles` where there is none; `choices` has the other players' choices at `base`, and then
-// those at the next. From the last player down, each choice goes back to its first marked one, until one goes on to its next. The
-// caller proves the same, and that `base` and `choices` are as said.
+// The next such offset after `base`, which is one, or `profiles` where there is none; `choices` has
+// the other players' choices at `base`, and then those at the next. From the last player down, each
+// choice goes back to its first marked one, until one goes on to its next. The caller proves the
+// same, and that `base` and `choices` are as said.
 pub fn next_row(
     counts: &[usize],
     marks: &[bool],
@@ -86,9 +87,7 @@ pub fn next_row(
 {
     let mut at = base;
     let mut stride: usize = 1;
-    let mut q = counts.len();
-    while 0 < q {
-        q -= 1;
+    for q in (0..counts.len()).rev() {
         let count = counts[q];
         if q != player {
             let place = q * MAX_STRATEGIES;

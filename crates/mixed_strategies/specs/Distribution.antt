@@ -1,4 +1,5 @@
--- Document 01, "Candidate checks": whether a vector is a distribution up to a tolerance. Assumes nothing.
+-- Document 01, "Candidate checks": whether a vector is a distribution up to a tolerance. Assumes
+-- nothing.
 use Rattle.std.specs.Prelude.{Bool, not, ◌&&◌, List, Float}
 use Rattle.std.specs.Float.{binary64}
 use Rattle.std.specs.Float.Ieee.{neg, sub, lt}

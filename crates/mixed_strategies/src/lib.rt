@@ -1,5 +1,6 @@
-// Mixed strategies: whether a vector is a distribution up to a tolerance, and whether the expectations under a vector stay within bounds. A
-// player has `count` strategies and the other one `others`; the number of own strategy s and the other's o stands at s × own + o × other in a
+// Mixed strategies: whether a vector is a distribution up to a tolerance, and whether the
+// expectations under a vector stay within bounds. A player has `count` strategies and the other one
+// `others`; the number of own strategy s and the other's o stands at s × own + o × other in a
 // table.
 #![tactic(auto)]
 
@@ -52,18 +53,16 @@ fn all_between(values: &[f64], count: usize, low: f64, high: f64) -> bool
     ensures { result ≡ all (λ t. between low high (get_or values.now t nan)) (below count) }
 {
     let mut ok = true;
-    let mut t = 0;
-    while t < count {
-        let x = values[t];
-        ok = ok & utility::is_finite(x) & !(x < low) & !(x > high);
-        t += 1;
+    for &x in &values[..count] {
+        ok &= utility::is_finite(x) & !(x < low) & !(x > high);
     }
     ok
 }
 
-// Whether, for each own strategy, the expectation under a vector over the other's strategies is finite, not below `low` and not above `high`.
-// A payoff less 0.0 is the payoff itself. The caller proves that there are 1 to MAX_ACTIONS strategies, that the vector has a number for each
-// of the other's, and that every payoff is finite and stands in the table.
+// Whether, for each own strategy, the expectation under a vector over the other's strategies is
+// finite, not below `low` and not above `high`. A payoff less 0.0 is the payoff itself. The caller
+// proves that there are 1 to MAX_ACTIONS strategies, that the vector has a number for each of the
+// other's, and that every payoff is finite and stands in the table.
 pub fn expectations_between(
     payoffs: &[f64],
     vector: &[f64],
@@ -81,10 +80,8 @@ pub fn expectations_between(
     ensures { result ≡ within payoffs.now vector.now count own others other low high }
 {
     let mut sums = [0.0; MAX_ACTIONS];
-    let mut o = 0;
-    while o < others {
-        sums::add_terms(&mut sums, count, vector[o], 0.0, payoffs, o * other, own);
-        o += 1;
+    for (o, share) in vector[..others].iter().enumerate() {
+        sums::add_terms(&mut sums, count, *share, 0.0, payoffs, o * other, own);
     }
     all_between(&sums, count, low, high)
 }

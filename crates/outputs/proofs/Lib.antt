@@ -1,2 +1,2 @@
 -- The proofs of this crate that are not of one function.
-pub mod Put
+pub mod Puts

@@ -1,5 +1,8 @@
-// Putting elements into an output one after the other, as far as there is room. A place past the end is the end, so that no call has to be
-// refused; whoever needs all of a list shows that the output holds it.
+// Putting elements into an output one after the other, as far as there is room. A place past the
+// end is the end, so that no call has to be refused; whoever needs all of a list shows that the
+// output holds it.
+// The output and the place are parameters one by one, here and in `text`, `report_lines` and
+// `report_table`: the clauses name both, and public functions keep theirs.
 #![tactic(auto)]
 
 ghost use Rattle.std.specs.Prelude.{◌≡◌, [], ◌∷◌, min};
@@ -10,29 +13,18 @@ ghost use Rattle.outputs.specs.Put.{past};
 pub fn within(end: usize, at: usize) -> usize
     ensures { result ≡ min end at }
 {
-    if end < at { end } else { at }
+    end.min(at)
 }
 
-// Puts a byte at a place, if there is such a place. The place after it, or the end.
-pub fn put_byte(out: &mut [u8], at: usize, byte: u8) -> usize
-    ensures value { result ≡ past out.old at (byte ∷ []) }
-    ensures out_after { out.new ≡ sets out.old at (byte ∷ []) }
+// Puts an element at a place, if there is such a place. The place after it, or the end.
+pub fn put<T: Copy>(out: &mut [T], at: usize, x: T) -> usize
+    ensures value { result ≡ past out.old at (x ∷ []) }
+    ensures out_after { out.new ≡ sets out.old at (x ∷ []) }
 {
     if at < out.len() {
-        out[at] = byte;
-        return at + 1;
+        out[at] = x;
+        at + 1
+    } else {
+        out.len()
     }
-    out.len()
-}
-
-// The same with a number.
-pub fn put_number(out: &mut [usize], at: usize, n: usize) -> usize
-    ensures value { result ≡ past out.old at (n ∷ []) }
-    ensures out_after { out.new ≡ sets out.old at (n ∷ []) }
-{
-    if at < out.len() {
-        out[at] = n;
-        return at + 1;
-    }
-    out.len()
 }

@@ -1,14 +1,14 @@
-// The view's calls for callers that hold no view: each makes one of its fields and calls it. No contract here names a view or a lent list of
-// records.
+// The view's calls for callers that hold no view: each makes one of its fields and calls it. No
+// contract here names a view or a lent list of records.
 #![tactic(auto)]
 
 ghost use Rattle.std.specs.Prelude.{◌≡◌, length};
 ghost use Rattle.game.specs.Game.{strategy as named};
-ghost use Rattle.refusal.specs.Told.{told_bool, told_listing, told_unit, told_usize, unless, unless_refused};
+ghost use Rattle.refusal.specs.Told.{told, unless, unless_refused};
 ghost use Rattle.written_lists.specs.Outputs.{over};
 ghost use Rattle.payoff_tables.specs.Limits.{max_strategies};
 ghost use Rattle.payoff_tables.specs.Checks.{table_refusal};
-ghost use Rattle.table.specs.Space.{space_unless};
+ghost use Rattle.table.specs.Space.{space_of};
 ghost use Rattle.equilibria.specs.Answers.{is_equilibrium_answer, equilibria_answer, equilibria_choices, equilibria_utilities};
 ghost use Rattle.dominance.specs.Answers.{strategies_of, dominators_of, dominated_answer, dominated_written};
 ghost use Rattle.survivors.specs.Survivors.{fresh_of, no_survivors};
@@ -16,30 +16,25 @@ ghost use Rattle.strikes.specs.Answers.{strike_answer, strike_leaves};
 ghost use Rattle.view_fields.specs.Counts.{first_counts};
 ghost use Rattle.response_list.specs.Responses.{records_answer, records_written};
 
-use refusal::{BoolResult, ListingResult, UsizeResult};
+use refusal::{Listed, NormalFormError};
 use response_list::{BestResponse, ResponseList};
 use survivor_calls::StrikeResult;
 use survivors::{FreshResult, Survivors};
-use table::{MAX_PLAYERS, MAX_STRATEGIES, SpaceResult, StrategySpace};
+use table::{MAX_PLAYERS, MAX_STRATEGIES, StrategySpace};
 use view::PayoffMatrix;
 
-// The view's `new`: the answer, beside P and the counts that the view has.
-pub fn matrix_new(counts: &[usize], payoffs: &[f64]) -> SpaceResult
-    ensures { (told_unit result.answer ≡ unless (table_refusal counts.now payoffs.now) tt)
-        × (result.space ≡ space_unless (table_refusal counts.now payoffs.now) counts.now) }
+// The view's `new`: P and the counts that the view has, or the refusal.
+pub fn matrix_new(counts: &[usize], payoffs: &[f64]) -> Result<StrategySpace, NormalFormError>
+    ensures { told result ≡ unless (table_refusal counts.now payoffs.now) (space_of counts.now) }
 {
-    let made = PayoffMatrix::new(counts, payoffs);
-    let matrix = made.matrix;
-    SpaceResult {
-        answer: made.answer,
-        space: StrategySpace {
-            players: matrix.players,
-            counts: matrix.counts,
-        },
-    }
+    let matrix = PayoffMatrix::new(counts, payoffs)?;
+    let players = matrix.players;
+    let counts = matrix.counts;
+    Ok(StrategySpace { players, counts })
 }
 
-// The view's `best_responses`; the list goes in and comes back by value, and has room for every answer.
+// The view's `best_responses`; the list goes in and comes back by value, and has room for every
+// answer.
 pub fn matrix_best_responses(
     payoffs: &[f64],
     players: usize,
@@ -48,18 +43,18 @@ pub fn matrix_best_responses(
     opponents: &[usize],
     records: [BestResponse; MAX_STRATEGIES],
 ) -> ResponseList
-    ensures { (told_usize result.answer ≡ records_answer (first_counts players counts) payoffs.now player opponents.now max_strategies)
+    ensures { (told result.answer ≡ records_answer (first_counts players counts) payoffs.now player opponents.now max_strategies)
         × (result.records ≡ over (records_written (first_counts players counts) payoffs.now player opponents.now max_strategies) records) }
 {
     let mut list = records;
     let matrix = PayoffMatrix {
-        payoffs: payoffs,
-        players: players,
-        counts: counts,
+        payoffs,
+        players,
+        counts,
     };
     let answer = matrix.best_responses(player, opponents, &mut list);
     ResponseList {
-        answer: answer,
+        answer,
         records: list,
     }
 }
@@ -70,13 +65,13 @@ pub fn matrix_is_equilibrium(
     players: usize,
     counts: [usize; MAX_PLAYERS],
     profile: &[usize],
-) -> BoolResult
-    ensures { told_bool result ≡ is_equilibrium_answer (first_counts players counts) payoffs.now profile.now }
+) -> Result<bool, NormalFormError>
+    ensures { told result ≡ is_equilibrium_answer (first_counts players counts) payoffs.now profile.now }
 {
     let matrix = PayoffMatrix {
-        payoffs: payoffs,
-        players: players,
-        counts: counts,
+        payoffs,
+        players,
+        counts,
     };
     matrix.is_equilibrium(profile)
 }
@@ -88,15 +83,15 @@ pub fn matrix_equilibria(
     counts: [usize; MAX_PLAYERS],
     choices: &mut [usize],
     utilities: &mut [f64],
-) -> ListingResult
-    ensures { (told_listing result ≡ equilibria_answer (first_counts players counts) payoffs.now (length choices.old) (length utilities.old))
+) -> Result<Listed, NormalFormError>
+    ensures { (told result ≡ equilibria_answer (first_counts players counts) payoffs.now (length choices.old) (length utilities.old))
         × (choices.new ≡ over (equilibria_choices (first_counts players counts) payoffs.now (length choices.old) (length utilities.old)) choices.old)
         × (utilities.new ≡ over (equilibria_utilities (first_counts players counts) payoffs.now (length choices.old) (length utilities.old)) utilities.old) }
 {
     let matrix = PayoffMatrix {
-        payoffs: payoffs,
-        players: players,
-        counts: counts,
+        payoffs,
+        players,
+        counts,
     };
     matrix.equilibria(choices, utilities)
 }
@@ -109,28 +104,28 @@ pub fn matrix_strictly_dominated_strategies(
     player: usize,
     dominated: &mut [usize],
     dominators: &mut [usize],
-) -> UsizeResult
-    ensures { (told_usize result ≡ dominated_answer (first_counts players counts) payoffs.now player (length dominated.old) (length dominators.old))
+) -> Result<usize, NormalFormError>
+    ensures { (told result ≡ dominated_answer (first_counts players counts) payoffs.now player (length dominated.old) (length dominators.old))
         × (dominated.new ≡ over (strategies_of (dominated_written (first_counts players counts) payoffs.now player (length dominated.old) (length dominators.old))) dominated.old)
         × (dominators.new ≡ over (dominators_of (dominated_written (first_counts players counts) payoffs.now player (length dominated.old) (length dominators.old))) dominators.old) }
 {
     let matrix = PayoffMatrix {
-        payoffs: payoffs,
-        players: players,
-        counts: counts,
+        payoffs,
+        players,
+        counts,
     };
     matrix.strictly_dominated_strategies(player, dominated, dominators)
 }
 
 // The view's `fresh`.
 pub fn matrix_fresh(payoffs: &[f64], players: usize, counts: [usize; MAX_PLAYERS]) -> FreshResult
-    ensures { (told_unit result.answer ≡ unless (table_refusal (first_counts players counts) payoffs.now) tt)
+    ensures { (told result.answer ≡ unless (table_refusal (first_counts players counts) payoffs.now) tt)
         × (result.survivors ≡ unless_refused (table_refusal (first_counts players counts) payoffs.now) (fresh_of (first_counts players counts)) no_survivors) }
 {
     let matrix = PayoffMatrix {
-        payoffs: payoffs,
-        players: players,
-        counts: counts,
+        payoffs,
+        players,
+        counts,
     };
     matrix.fresh()
 }
@@ -144,13 +139,13 @@ pub fn matrix_strike(
     player: usize,
     strategy: usize,
 ) -> StrikeResult
-    ensures { (told_usize result.answer ≡ strike_answer (first_counts players counts) payoffs.now survivors (named player strategy))
+    ensures { (told result.answer ≡ strike_answer (first_counts players counts) payoffs.now survivors (named player strategy))
         × (result.survivors ≡ strike_leaves (first_counts players counts) payoffs.now survivors (named player strategy)) }
 {
     let matrix = PayoffMatrix {
-        payoffs: payoffs,
-        players: players,
-        counts: counts,
+        payoffs,
+        players,
+        counts,
     };
     matrix.strike(survivors, player, strategy)
 }

@@ -8,17 +8,10 @@ use Prim.Native.Nat.{ℕ, ◌≤◌}
 use native.Mathlib.Omega.{arith}
 use lib.Dec.{T, eqb}
 use mir.Val.{bool_byte}
+use Rattle.std.specs.Prelude.{Result, Ok, Err, IsErrAnd, Option as Answered, None, Some}
 use Rattle.refusal.specs.Refusal.{Refusal, number_of, ◌then◌}
 use Rattle.refusal.specs.declared.NormalFormError.{NormalFormError}
-use Rattle.refusal.specs.Told.{Told, values, refused, unless, told_of, status, tells, told_unit, told_usize, told_bool, told_listing, byte_of}
-use Rattle.refusal.specs.declared.UnitResult.{UnitResult}
-use Rattle.refusal.specs.declared.UnitResult.TheVariants.{Ok as ok, Err as err}
-use Rattle.refusal.specs.declared.UsizeResult.{UsizeResult}
-use Rattle.refusal.specs.declared.UsizeResult.TheVariants.{Ok, Err}
-use Rattle.refusal.specs.declared.BoolResult.{BoolResult}
-use Rattle.refusal.specs.declared.BoolResult.TheVariants.{Ok as okBool, Err as errBool}
-use Rattle.refusal.specs.declared.ListingResult.{ListingResult}
-use Rattle.refusal.specs.declared.ListingResult.TheVariants.{Ok as okListing, Err as errListing}
+use Rattle.refusal.specs.Told.{Told, values, refused, unless, told_of, status, tells, told, optional, byte_of}
 use Rattle.refusal.proofs.Refusal.{number_once, number_some, some_none}
 
 module _ {A : Type 0} where
@@ -66,29 +59,34 @@ told_of_refused f (refused m) n h = let is : m ≡ n = cc in ap (λ (k : ℕ). r
 
 -- ---- what was told determines the answer, since each refusal has a number of its own
 
-pub told_unit_once : (r s : UnitResult) → told_unit r ≡ told_unit s → r ≡ s
-told_unit_once ok ok h = refl
-told_unit_once ok (err e) h = absurd (apart tt (number_of e) h)
-told_unit_once (err d) ok h = absurd (apart tt (number_of d) (sym h))
-told_unit_once (err d) (err e) h = ap err (number_once d e (cc))
+pub told_once : {A : Type 0} (r s : Result A NormalFormError) → told r ≡ told s → r ≡ s
+told_once (Ok v) (Ok w) h = ap Ok (cc)
+told_once (Ok v) (Err e) h = absurd (apart v (number_of e) h)
+told_once (Err d) (Ok w) h = absurd (apart w (number_of d) (sym h))
+told_once (Err d) (Err e) h = ap Err (number_once d e (cc))
 
-pub told_usize_once : (r s : UsizeResult) → told_usize r ≡ told_usize s → r ≡ s
-told_usize_once (Ok m) (Ok n) h = ap Ok (cc)
-told_usize_once (Ok m) (Err e) h = absurd (apart m (number_of e) h)
-told_usize_once (Err d) (Ok n) h = absurd (apart n (number_of d) (sym h))
-told_usize_once (Err d) (Err e) h = ap Err (number_once d e (cc))
+-- nor do two answers have one value or none
+pub optional_once : {A : Type 0} (a b : Answered A) → optional a ≡ optional b → a ≡ b
+optional_once None None h = refl
+optional_once None (Some w) h = cc
+optional_once (Some v) None h = cc
+optional_once (Some v) (Some w) h = ap Some (cc)
 
-pub told_bool_once : (r s : BoolResult) → told_bool r ≡ told_bool s → r ≡ s
-told_bool_once (okBool a) (okBool b) h = ap okBool (cc)
-told_bool_once (okBool a) (errBool e) h = absurd (apart a (number_of e) h)
-told_bool_once (errBool d) (okBool b) h = absurd (apart b (number_of d) (sym h))
-told_bool_once (errBool d) (errBool e) h = ap errBool (number_once d e (cc))
+-- ---- a refusal that a `?` hands on
 
-pub told_listing_once : (r s : ListingResult) → told_listing r ≡ told_listing s → r ≡ s
-told_listing_once (okListing k) (okListing l) h = ap okListing (cc)
-told_listing_once (okListing k) (errListing e) h = absurd (apart k (number_of e) h)
-told_listing_once (errListing d) (okListing l) h = absurd (apart l (number_of d) (sym h))
-told_listing_once (errListing d) (errListing e) h = ap errListing (number_once d e (cc))
+-- what is returned tells the refusal that the call told,
+pub handed_on : {A : Type 0} (e : NormalFormError) (r : Result A NormalFormError) → IsErrAnd r (λ d. d ≡ e) → told r ≡ refused (number_of e)
+handed_on e (Ok v) h = absurd h
+handed_on e (Err d) h = ap (λ (x : NormalFormError). refused (number_of x)) h
+
+-- whatever values were to be told, and whatever refusals were to follow
+pub hands_on : {A B : Type 0} (e : NormalFormError) (r : Result A NormalFormError) (q s : Refusal) (v : B) (w : A)
+    → IsErrAnd r (λ d. d ≡ e) → refused (number_of e) ≡ unless q v → told r ≡ unless (q then s) w
+hands_on e r q s v w h g = handed_on e r h ∙ refused_first q v w (number_of e) g s
+
+pub hands_on_last : {A B : Type 0} (e : NormalFormError) (r : Result A NormalFormError) (q : Refusal) (v : B) (w : A)
+    → IsErrAnd r (λ d. d ≡ e) → refused (number_of e) ≡ unless q v → told r ≡ unless q w
+hands_on_last e r q v w h g = handed_on e r h ∙ refused_again q v w (number_of e) g
 
 -- ---- a truth value as a byte
 

@@ -1,19 +1,9 @@
 -- What an answer tells: values, or a refusal's number alone. The contract of every call that may refuse speaks of its answer through this type.
 -- Assumes nothing.
-use Rattle.std.specs.Prelude.{Bool, true, false, ℕ}
+use Rattle.std.specs.Prelude.{Bool, true, false, ℕ, Result, Ok, Err, Option as Answered, None, Some}
 use Rattle.std.proofs.Math.Option.{Option, none, some}
 use Rattle.refusal.specs.Refusal.{Refusal, number_of}
-use Rattle.refusal.specs.declared.UnitResult.{UnitResult}
-use Rattle.refusal.specs.declared.UnitResult.TheVariants.{Ok as ok, Err as err}
-use Rattle.refusal.specs.declared.UsizeResult.{UsizeResult}
-use Rattle.refusal.specs.declared.UsizeResult.TheVariants.{Ok, Err}
-use Rattle.refusal.specs.declared.BoolResult.{BoolResult}
-use Rattle.refusal.specs.declared.BoolResult.TheVariants.{Ok as okBool, Err as errBool}
-use Rattle.refusal.specs.declared.Listed.{Listed}
-use Rattle.refusal.specs.declared.ListingResult.{ListingResult}
-use Rattle.refusal.specs.declared.ListingResult.TheVariants.{Ok as okListing, Err as errListing}
-use Rattle.refusal.specs.declared.UsizeOption.{UsizeOption}
-use Rattle.refusal.specs.declared.UsizeOption.TheVariants.{None, Some}
+use Rattle.refusal.specs.declared.NormalFormError.{NormalFormError}
 
 -- an answer with values of type A
 pub data Told (A : Type 0) : Type 0 where
@@ -46,26 +36,14 @@ tells (values v) = true
 tells (refused n) = false
 
 -- what the code's answers tell
-abbrev pub told_unit : UnitResult → Told (Unit {0})
-told_unit ok = values tt
-told_unit (err e) = refused (number_of e)
+abbrev pub told : {A : Type 0} → Result A NormalFormError → Told A
+told (Ok v) = values v
+told (Err e) = refused (number_of e)
 
-abbrev pub told_usize : UsizeResult → Told ℕ
-told_usize (Ok n) = values n
-told_usize (Err e) = refused (number_of e)
-
-abbrev pub told_bool : BoolResult → Told Bool
-told_bool (okBool b) = values b
-told_bool (errBool e) = refused (number_of e)
-
-abbrev pub told_listing : ListingResult → Told Listed
-told_listing (okListing l) = values l
-told_listing (errListing e) = refused (number_of e)
-
--- a number or none
-abbrev pub option_usize : UsizeOption → Option ℕ
-option_usize None = none
-option_usize (Some n) = some n
+-- a value or none, which the code's answers and the definitions each have a type for
+abbrev pub optional : {A : Type 0} → Answered A → Option A
+optional None = none
+optional (Some v) = some v
 
 -- a truth value as a byte: 1, or 0 for no
 abbrev pub byte_of : Bool → ℕ

@@ -1,5 +1,6 @@
--- The reader, with outputs that have room for a file within the report's limits, refuses as the report does, but by 13 where the report gives 5
--- for the cells. None of its other faults is 13. Assumes nothing.
+-- The reader, with outputs that have room for a file within the report's limits, refuses as the
+-- report does, but by 13 where the report gives 5 for the cells. None of its other faults is 13.
+-- Assumes nothing.
 use mathlib.Core.Path.{◌≡◌, refl, sym, ap, ap₂, ◌∙◌}
 use mathlib.Core.Bool.{Bool, true, false, cond}
 use mathlib.Core.List.{List, [], ◌∷◌}
@@ -7,7 +8,7 @@ use mathlib.Core.Logic.{⊎_elim}
 use mathlib.Core.Option.{none, some}
 use Prim.Native.Nat.{ℕ, ◌≤◌, ◌<◌}
 use native.Mathlib.Omega.{arith}
-use borrow.Author.Tests.{le-ltb, lt-ltb, ne_eqb}
+use borrow.Author.Tests.{le-ltb, lt-ltb}
 use lib.Dec.{ltb, eqb}
 use lib.ListN.{length}
 use lib.Ieee.{Float}
@@ -16,7 +17,8 @@ use Rattle.game.proofs.Finite.{le_or_lt}
 use Rattle.refusal.specs.Refusal.{Refusal, number_of, when, ◌then◌, each}
 use Rattle.refusal.specs.declared.NormalFormError.{NormalFormError}
 use Rattle.refusal.specs.declared.NormalFormError.TheVariants.{TooManyCells, OutputTooShort}
-use Rattle.refusal.specs.Told.{Told, values, refused, unless, told_of}
+use Rattle.std.specs.Prelude.{Result, Ok, Err, IsErrAnd, MatchResult}
+use Rattle.refusal.specs.Told.{Told, values, refused, unless, told, told_of}
 use Rattle.refusal.proofs.Refusal.{some_none, then_none, then_assoc}
 use Rattle.refusal.proofs.Told.{told_of_lem, told_values}
 use Rattle.written_lists.specs.Outputs.{written_of, over}
@@ -33,11 +35,7 @@ use Rattle.deposit_format.proofs.Tables.{payoffs_length}
 use Rattle.deposit_format.proofs.Reader.{stages_none}
 use Rattle.deposit_format.proofs.Writer.{deposit_length}
 use Rattle.deposit_format.proofs.Back.{read_back, table_read}
-use Rattle.report_input.specs.Input.{max_report_cells, max_file_bytes, input_refusal, input_table}
-
--- 5 in place of 13
-abbrev pub five : NormalFormError → NormalFormError
-five e = cond (eqb (number_of e) 13) TooManyCells e
+use Rattle.report_input.specs.Input.{max_report_cells, max_file_bytes, input_refusal, five, input_table}
 
 abbrev pub fives : Refusal → Refusal
 fives none = none
@@ -184,7 +182,8 @@ input_accepted bytes B h = ⊎_elim go (λ (l : max_file_bytes < length bytes). 
           omega (arith, payoffs_length (words_of bytes), (stages_none bytes max_players max_report_cells n).3),
         )
 
--- the file of every table of no more cells is accepted, and is that table's: the limit of bytes refuses none
+-- the file of every table of no more cells is accepted, and is that table's: the limit of bytes
+-- refuses none
 module _ (counts : List ℕ) (payoffs : List Float) (t : Table counts payoffs) (d : Doubles payoffs) (few : length payoffs ≤ max_report_cells) where
   abbrev file : List ℕ
   file = deposit counts payoffs
@@ -205,13 +204,19 @@ module _ (counts : List ℕ) (payoffs : List Float) (t : Table counts payoffs) (
 -- ---- what is told and written
 
 -- 5 told in place of 13
-abbrev told_five : Told ℕ → Told ℕ
+abbrev pub told_five : Told ℕ → Told ℕ
 told_five (values n) = values n
 told_five (refused n) = refused (cond (eqb n 13) 5 n)
 
 number_five : (b : Bool) (e : NormalFormError) → number_of (cond b TooManyCells e) ≡ cond b 5 (number_of e)
 number_five true e = refl
 number_five false e = refl
+
+-- what is told of an answer whose refusal was replaced
+pub told_reported : (r s : Result ℕ NormalFormError) → MatchResult r (λ n. s ≡ Ok n) (λ e. IsErrAnd s (λ d. d ≡ five e)) → told s ≡ told_five (told r)
+told_reported (Ok n) s h = ap told h
+told_reported (Err e) (Ok n) h = absurd h
+told_reported (Err e) (Err d) h = ap (λ (x : NormalFormError). refused (number_of x)) h ∙ ap (λ (m : ℕ). refused m) (number_five (eqb (number_of e) 13) e)
 
 told_five_lem : (r : Refusal) (n : ℕ) → unless (fives r) n ≡ told_five (unless r n)
 told_five_lem none n = refl
@@ -251,7 +256,7 @@ module _ (bytes counts : List ℕ) (payoffs : List Float) where
     payoffs_written = ap (λ (xs : List Float). over xs payoffs) (written_five (λ t. t.1) refusal read ∙ ap (written_of (λ t. t.1)) (sym table_is))
 
     -- and what it told, with 5 in place of 13
-    answer_is : told_five (read_answer bytes counts payoffs) ≡ told_of (λ t. length t.0) (input_table bytes)
+    pub answer_is : told_five (read_answer bytes counts payoffs) ≡ told_of (λ t. length t.0) (input_table bytes)
     unfolding read_answer table_of
     answer_is =
         let n = length (counts_in (words_of bytes)) in
@@ -259,12 +264,3 @@ module _ (bytes counts : List ℕ) (payoffs : List Float) where
         ∙ sym (told_five_lem refusal n)
         ∙ sym (told_of_lem (λ t. length t.0) (fives refusal) read)
         ∙ ap (told_of (λ t. length t.0)) (sym table_is)
-
-    pub players_told : (n : ℕ) → values n ≡ read_answer bytes counts payoffs → values n ≡ told_of (λ t. length t.0) (input_table bytes)
-    players_told n e = ap told_five e ∙ answer_is
-
-    pub short_told : (n : ℕ) → n ≡ 13 → refused n ≡ read_answer bytes counts payoffs → refused 5 ≡ told_of (λ t. length t.0) (input_table bytes)
-    short_told n is e = ap (λ (m : ℕ). told_five (refused m)) (sym is) ∙ ap told_five e ∙ answer_is
-
-    pub refused_told : (n : ℕ) → (n ≡ 13 → ⊥) → refused n ≡ read_answer bytes counts payoffs → refused n ≡ told_of (λ t. length t.0) (input_table bytes)
-    refused_told n not e = ap (λ (b : Bool). refused (cond b 5 n)) (sym (ne_eqb n 13 not)) ∙ ap told_five e ∙ answer_is

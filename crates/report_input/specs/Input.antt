@@ -1,8 +1,9 @@
--- Document 01, "The report program": a deposit file of at most 2,048 cells. More bytes than 24,616 give 5 before any other check; more cells give
--- 5 where the reader gives it. Assumes nothing.
-use Rattle.std.specs.Prelude.{List, ℕ, ltb, length, Float}
-use Rattle.refusal.specs.Refusal.{Refusal, when, ◌then◌}
+-- Document 01, "The report program": a deposit file of at most 2,048 cells. More bytes than 24,616
+-- give 5 before any other check; more cells give 5 where the reader gives it. Assumes nothing.
+use Rattle.std.specs.Prelude.{List, ℕ, cond, eqb, ltb, length, Float}
+use Rattle.refusal.specs.Refusal.{Refusal, number_of, when, ◌then◌}
 use Rattle.refusal.specs.Told.{Told, unless}
+use Rattle.refusal.specs.declared.NormalFormError.{NormalFormError}
 use Rattle.refusal.specs.declared.NormalFormError.TheVariants.{TooManyCells}
 use Rattle.file_words.specs.Words.{words_of}
 use Rattle.file_words.specs.Faults.{length_fault}
@@ -24,6 +25,10 @@ input_refusal bytes =
     then length_fault bytes
     then head_fault ws max_report_cells
     then rest_fault ws
+
+-- the report's refusal for one of the reader's: 5 in place of 13
+abbrev pub five : NormalFormError → NormalFormError
+five e = cond (eqb (number_of e) 13) TooManyCells e
 
 -- the table of the file, or the refusal
 unfoldable pub input_table : List ℕ → Told (List ℕ × List Float)

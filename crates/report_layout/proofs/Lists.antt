@@ -23,7 +23,7 @@ use Rattle.payoff_tables.specs.Table.{offset, table_game, profile_part}
 use Rattle.payoff_tables.specs.Meaning.{Table}
 use Rattle.payoff_tables.proofs.Table.{part_within, part_length_lem}
 use Rattle.equilibria.specs.Answers.{table_equilibria}
-use Rattle.outputs.proofs.Put.{sets_all}
+use Rattle.outputs.proofs.Puts.{sets_all}
 use Rattle.report_layout.specs.Lines.{entry_line, numbers_line, part, entry_lines, numbers_lines}
 use Rattle.strike_sweeps.specs.Sweeps.{Strike, strike_numbers, strikes_numbers, sweeps}
 use Rattle.strike_sweeps.proofs.Ends.{sweeps_done}

@@ -17,11 +17,9 @@ fn put_bits(out: &mut [u8], at: usize, utilities: &[f64]) -> usize
     ensures out_after { out.new ≡ sets out.old at (spaced (map bits_word utilities.now)) }
 {
     let mut place = outputs::within(out.len(), at);
-    let mut i = 0;
-    while i < utilities.len() {
-        place = outputs::put_byte(out, place, b' ');
-        place = text::put_hexadecimal(out, place, f64::to_bits(utilities[i]));
-        i += 1;
+    for &utility in utilities {
+        place = outputs::put(out, place, b' ');
+        place = text::put_hexadecimal(out, place, utility.to_bits());
     }
     place
 }
@@ -35,11 +33,13 @@ fn put_entry(out: &mut [u8], at: usize, choices: &[usize], utilities: &[f64]) ->
 {
     let mut place = text::put_numbers(out, at, choices);
     place = put_bits(out, place, utilities);
-    outputs::put_byte(out, place, b'\n')
+    outputs::put(out, place, b'\n')
 }
 
-// Puts the lines of `number` equilibria, whose choices and payoffs stand one after the other, `players` of each. The caller proves that there is a
-// player, that the slices have so many, and that the payoffs are finite.
+// Puts the lines of `number` equilibria, whose choices and payoffs stand one after the other,
+// `players` of each. The caller proves that there is a player, that the slices have so many, and
+// that the payoffs are finite.
+#[tactic(auto, using(crate::proofs::Lines::entry_within))]
 pub fn put_entries(
     out: &mut [u8],
     at: usize,
@@ -55,12 +55,10 @@ pub fn put_entries(
     ensures out_after { out.new ≡ sets out.old at (entry_lines players number choices.now utilities.now) }
 {
     let mut place = outputs::within(out.len(), at);
-    let mut i = 0;
-    while i < number {
+    for i in 0..number {
         let from = i * players;
         let to = from + players;
         place = put_entry(out, place, &choices[from..to], &utilities[from..to]);
-        i += 1;
     }
     place
 }
@@ -71,22 +69,22 @@ fn put_line(out: &mut [u8], at: usize, numbers: &[usize]) -> usize
     ensures out_after { out.new ≡ sets out.old at (numbers_line numbers.now) }
 {
     let place = text::put_numbers(out, at, numbers);
-    outputs::put_byte(out, place, b'\n')
+    outputs::put(out, place, b'\n')
 }
 
-// Puts `number` lines of `width` numbers, which stand one after the other. The caller proves that there are so many.
+// Puts `number` lines of `width` numbers, which stand one after the other. The caller proves that
+// there are so many.
+#[tactic(auto, using(crate::proofs::Lines::entry_within))]
 pub fn put_lines(out: &mut [u8], at: usize, numbers: &[usize], width: usize, number: usize) -> usize
     requires { number * width ≤ length numbers.now }
     ensures value { result ≡ past out.old at (numbers_lines width number numbers.now) }
     ensures out_after { out.new ≡ sets out.old at (numbers_lines width number numbers.now) }
 {
     let mut place = outputs::within(out.len(), at);
-    let mut i = 0;
-    while i < number {
+    for i in 0..number {
         let from = i * width;
         let to = from + width;
         place = put_line(out, place, &numbers[from..to]);
-        i += 1;
     }
     place
 }

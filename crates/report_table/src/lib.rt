@@ -12,8 +12,6 @@ ghost use Rattle.digits_and_lines.specs.Text.{decimal, line};
 ghost use Rattle.report_input.specs.Input.{max_report_cells};
 ghost use Rattle.report_layout.specs.Table.{catalogue_line, equilibria_text, struck_text, table_report};
 
-use catalogue::NumberResult;
-use refusal::{ListingResult, UsizeOption};
 use report_input::MAX_REPORT_CELLS;
 use table::MAX_MARKS;
 
@@ -28,12 +26,11 @@ pub fn put_number_line(out: &mut [u8], at: usize, name: &[u8], n: usize) -> usiz
     ensures value { result ≡ past out.old at (line (name.now ∷ decimal n ∷ [])) }
     ensures out_after { out.new ≡ sets out.old at (line (name.now ∷ decimal n ∷ [])) }
 {
-    let numbers = [n];
-    text::put_labelled(out, at, name, &numbers)
+    text::put_labelled(out, at, name, &[n])
 }
 
-// Puts the list of equilibria after its length: the total that one listing tells, and what it writes. Both of its outputs hold every profile's
-// choices and payoffs.
+// Puts the list of equilibria after its length: the total that one listing tells, and what it
+// writes. Both of its outputs hold every profile's choices and payoffs.
 fn put_equilibria(out: &mut [u8], at: usize, counts: &[usize], payoffs: &[f64]) -> usize
     requires table { Table counts.now payoffs.now }
     requires payoffs_len_bound { length payoffs.now ≤ max_report_cells }
@@ -42,20 +39,18 @@ fn put_equilibria(out: &mut [u8], at: usize, counts: &[usize], payoffs: &[f64]) 
 {
     let mut choices = [0usize; MAX_REPORT_CELLS];
     let mut utilities = [0.0f64; MAX_REPORT_CELLS];
-    match pure_nash::equilibria(counts, payoffs, &mut choices, &mut utilities) {
-        ListingResult::Err(_) => at,
-        ListingResult::Ok(listed) => {
-            let place = put_number_line(out, at, b"equilibria", listed.total);
-            report_lines::put_entries(
-                out,
-                place,
-                &choices,
-                &utilities,
-                counts.len(),
-                listed.written,
-            )
-        }
-    }
+    let Ok(listed) = pure_nash::equilibria(counts, payoffs, &mut choices, &mut utilities) else {
+        return at;
+    };
+    let place = put_number_line(out, at, b"equilibria", listed.total);
+    report_lines::put_entries(
+        out,
+        place,
+        &choices,
+        &utilities,
+        counts.len(),
+        listed.written,
+    )
 }
 
 // Puts the list of strikes after its length.
@@ -78,16 +73,14 @@ fn put_catalogue(out: &mut [u8], at: usize, counts: &[usize], payoffs: &[f64]) -
     ensures out_after { out.new ≡ sets out.old at (catalogue_line (game_number catalogue (table_game counts.now payoffs.now))) }
 {
     match catalogue::number(counts, payoffs) {
-        NumberResult::Err(_) => at,
-        NumberResult::Ok(number) => match number {
-            UsizeOption::None => text::put(out, at, b"catalogue none\n"),
-            UsizeOption::Some(n) => put_number_line(out, at, b"catalogue", n),
-        },
+        Err(_) => at,
+        Ok(None) => text::put(out, at, b"catalogue none\n"),
+        Ok(Some(n)) => put_number_line(out, at, b"catalogue", n),
     }
 }
 
-// Puts the report on a table at the start of the output. The caller proves that the table has none of refusals 1 to 7, and no more cells than the
-// report takes.
+// Puts the report on a table at the start of the output. The caller proves that the table has none
+// of refusals 1 to 7, and no more cells than the report takes.
 pub fn put_table(out: &mut [u8], counts: &[usize], payoffs: &[f64]) -> usize
     requires table { Table counts.now payoffs.now }
     requires payoffs_len_bound { length payoffs.now ≤ max_report_cells }

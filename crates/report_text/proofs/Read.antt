@@ -18,7 +18,7 @@ use Rattle.payoff_tables.specs.Table.{cells}
 use Rattle.payoff_tables.specs.Meaning.{Table}
 use Rattle.file_words.specs.Words.{Bytes, words_of}
 use Rattle.deposit_format.specs.Deposit.{counts_in, payoffs_in}
-use Rattle.outputs.proofs.Put.{past_all, sets_all}
+use Rattle.outputs.proofs.Puts.{past_all, sets_all}
 use Rattle.outputs.specs.Put.{Puts}
 use Rattle.report_input.specs.Input.{max_report_cells, input_refusal, input_table}
 use Rattle.report_input.proofs.Input.{input_accepted}

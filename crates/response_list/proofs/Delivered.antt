@@ -14,7 +14,7 @@ use lib.ListN.{length, take, drop, length-append, length-map}
 use lib.Seq.{length-take-le, take-append_seam}
 use Rattle.refusal.specs.Refusal.{Refusal, when, ◌then◌}
 use Rattle.refusal.specs.declared.NormalFormError.TheVariants.{OutputTooShort}
-use Rattle.refusal.specs.Told.{told_usize, unless}
+use Rattle.refusal.specs.Told.{told, unless}
 use Rattle.written_lists.specs.Outputs.{room_refusal, over, written}
 use Rattle.payoff_tables.specs.Limits.{max_strategies}
 use Rattle.payoff_tables.specs.Checks.{table_refusal, player_refusal}
@@ -47,27 +47,27 @@ module _ (counts : List ℕ) (payoffs : List Float) (p : ℕ) (opponents : List 
   abbrev listed : List BestResponse
   listed = records_written counts payoffs p opponents room
 
-  abbrev told : ℕ
-  told = written (records_answer counts payoffs p opponents room)
+  abbrev count : ℕ
+  count = written (records_answer counts payoffs p opponents room)
 
-  told_most : told ≤ length there
+  told_most : count ≤ length there
   unfolding responses_answer
   told_most =
       written_most
       (table_refusal counts payoffs then player_refusal counts p then opponents_refusal counts p opponents then room_refusal (length there) room room)
       (length there)
 
-  told_room : told ≤ room
+  told_room : count ≤ room
   unfolding responses_answer
   told_room =
       written_room (table_refusal counts payoffs) (player_refusal counts p) (opponents_refusal counts p opponents) (length there) room room
 
-  listed_long : length listed ≡ told
-  listed_long = length-map (take told there) _ ∙ length-take-le told there told_most
+  listed_long : length listed ≡ count
+  listed_long = length-map (take count there) _ ∙ length-take-le count there told_most
 
-  module _ (found : Found) (answered : told_usize found.answer ≡ records_answer counts payoffs p opponents room)
-      (many : found.number ≡ written (told_usize found.answer)) (holds : found.records ≡ over listed no_records) where
-    number_told : found.number ≡ told
+  module _ (found : Found) (answered : told found.answer ≡ records_answer counts payoffs p opponents room)
+      (many : found.number ≡ written (told found.answer)) (holds : found.records ≡ over listed no_records) where
+    number_told : found.number ≡ count
     number_told = many ∙ ap written answered
 
     pub number_fits : found.number ≤ room

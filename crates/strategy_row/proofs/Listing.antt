@@ -42,11 +42,6 @@ module _ (payoffs : List Float) (marks : List Bool) (place start step top : ℕ)
           beside = u.beside ∙ sym (ap (λ (xs : List ℕ). over (map paid xs) old') e);
         }
 
-    -- at the end all are written
-    pub listed_end : (count : ℕ) → n ≡ count → (strategies ≡ over (reached count) old) × (utilities ≡ over (map paid (reached count)) old')
-    listed_end count e =
-        (u.listed ∙ ap (λ (k : ℕ). over (reached k) old) e, u.beside ∙ ap (λ (k : ℕ). over (map paid (reached k)) old') e)
-
   -- with room for those of all strategies
   module _ (count : ℕ) (room : length (reached count) ≤ length old) (room' : length (reached count) ≤ length old') {n number : ℕ}
       {strategies : List ℕ} {utilities : List Float} (u : Listed n number strategies utilities) where

@@ -7,7 +7,6 @@ use mathlib.Core.Logic.Iff
 use mathlib.Core.Logic.{◌↔◌, ⊎_elim}
 use mathlib.Core.Option.{Option, none, some}
 use Prim.Native.Nat.{ℕ, ◌+◌, ◌*◌, ◌≤◌, ◌<◌}
-use native.Mathlib.Nat.{zero-mul}
 use native.Mathlib.Omega.{arith}
 use borrow.Author.Count.{below_more}
 use lib.Dec.{T, ltb}
@@ -26,10 +25,6 @@ use Rattle.payoff_tables.proofs.Walk.{row_pay}
 use Rattle.marks.specs.Marks.{marked}
 use Rattle.marks.proofs.Marks.{mark_at}
 use Rattle.strategy_row.specs.Row.{or_zero, row_unexceeded, row_best, row_bests, row_reaching, row_lowest}
-
--- strategy 0's cell
-pub first_cell : (start step : ℕ) → start + 0 * step ≡ start
-first_cell start step = omega (arith, zero-mul step)
 
 module _ (payoffs : List Float) (marks : List Bool) (place start step : ℕ) where
   -- strategy t is marked
@@ -74,9 +69,6 @@ module _ (payoffs : List Float) (marks : List Bool) (place start step : ℕ) whe
   pub record Found (any : Bool) (b n : ℕ) : Type 0 where
     pub nothing : (T any → ⊥) → (b ≡ 0) × ((t : ℕ) → t < n → On t → ⊥)
     pub something : T any → (b < n) × Top n b × ((t : ℕ) → t < b → On t → at t < at b)
-
-  pub found_none : Found false 0 0
-  found_none = record { nothing = λ _. (refl, λ t l. absurd (omega arith)); something = λ h. absurd h }
 
   -- a strategy that is not marked, or does not exceed the best so far, changes nothing
   pub found_old : (any : Bool) (b n : ℕ) → Found any b n → (On n → T any × (at n ≤ at b)) → Found any b (n + 1)

@@ -1,5 +1,6 @@
-// A row, the cells of one player's strategies: strategy t's payoff is payoffs[start + t × step], and its mark marks[place + t]. The walks
-// along it behind best responses and equilibria.
+// A row, the cells of one player's strategies: strategy t's payoff is payoffs[start + t × step],
+// and its mark marks[place + t]. The walks along it behind best responses and equilibria. No struct
+// holds a row, since each clause names these parameters.
 #![tactic(auto)]
 
 ghost use Rattle.std.specs.Prelude.{◌≡◌, map, ℕ, ◌+◌, ◌*◌, ◌<◌, ◌≤◌, length, get_or};
@@ -10,8 +11,8 @@ ghost use Rattle.strategy_row.specs.Row.{row_unexceeded, row_reaching, row_lowes
 
 use utility::Utility;
 
-// Whether no marked strategy's payoff exceeds that of the cell `own`. The caller proves that the row lies within the table and the marks,
-// that `own` is a cell, and that every payoff is finite.
+// Whether no marked strategy's payoff exceeds that of the cell `own`. The caller proves that the
+// row lies within the table and the marks, that `own` is a cell, and that every payoff is finite.
 pub fn unexceeded(
     payoffs: &[f64],
     marks: &[bool],
@@ -27,20 +28,17 @@ pub fn unexceeded(
     requires own_in_bounds { own < length payoffs.now }
     ensures { result ≡ row_unexceeded payoffs.now marks.now place start step count own }
 {
-    let mut t = 0;
-    while t < count {
-        if marks[place + t] {
-            if table::exceeds(payoffs, start + t * step, own) {
-                return false;
-            }
+    for t in 0..count {
+        if marks[place + t] && table::exceeds(payoffs, start + t * step, own) {
+            return false;
         }
-        t += 1;
     }
     true
 }
 
-// The lowest marked strategy whose payoff no marked strategy exceeds, or 0 where none is marked. The caller proves that the row lies within
-// the table and the marks and has a strategy, and that every payoff is finite.
+// The lowest marked strategy whose payoff no marked strategy exceeds, or 0 where none is marked.
+// The caller proves that the row lies within the table and the marks and has a strategy, and that
+// every payoff is finite.
 pub fn best(
     payoffs: &[f64],
     marks: &[bool],
@@ -55,26 +53,21 @@ pub fn best(
     requires count_nonzero { 0 < count }
     ensures { result ≡ row_lowest payoffs.now marks.now place start step count }
 {
-    let mut any = false;
-    let mut best: usize = 0;
-    let mut top = Utility::of_finite(payoffs[start]);
-    let mut t = 0;
-    while t < count {
+    let mut best: Option<(usize, Utility)> = None;
+    for t in 0..count {
         if marks[place + t] {
             let mine = Utility::of_finite(payoffs[start + t * step]);
-            if !any | mine.exceeds(top) {
-                any = true;
-                best = t;
-                top = mine;
+            if best.is_none_or(|(_, top)| mine.exceeds(top)) {
+                best = Some((t, mine));
             }
         }
-        t += 1;
     }
-    best
+    best.map_or(0, |(t, _)| t)
 }
 
-// How many marked strategies have a payoff that the cell `top` does not exceed. The caller proves that the row lies within the table and the
-// marks, that `top` is a cell, and that every payoff is finite.
+// How many marked strategies have a payoff that the cell `top` does not exceed. The caller proves
+// that the row lies within the table and the marks, that `top` is a cell, and that every payoff is
+// finite.
 pub fn count_best(
     payoffs: &[f64],
     marks: &[bool],
@@ -91,19 +84,16 @@ pub fn count_best(
     ensures { result ≡ length (row_reaching payoffs.now marks.now place start step count top) }
 {
     let mut number: usize = 0;
-    let mut t = 0;
-    while t < count {
-        if marks[place + t] {
-            if !table::exceeds(payoffs, top, start + t * step) {
-                number += 1;
-            }
+    for t in 0..count {
+        if marks[place + t] && !table::exceeds(payoffs, top, start + t * step) {
+            number += 1;
         }
-        t += 1;
     }
     number
 }
 
-// Writes those strategies, ascending, and the payoff of each. The caller proves the same, and that both outputs hold them.
+// Writes those strategies, ascending, and the payoff of each. The caller proves the same, and that
+// both outputs hold them.
 pub fn write_best(
     payoffs: &[f64],
     marks: &[bool],
@@ -125,8 +115,7 @@ pub fn write_best(
     ensures utilities_after { utilities.new ≡ over (map (λ t. get_or payoffs.now (start + t * step) nan) (row_reaching payoffs.now marks.now place start step count top)) utilities.old }
 {
     let mut number: usize = 0;
-    let mut t = 0;
-    while t < count {
+    for t in 0..count {
         if marks[place + t] {
             let cell = start + t * step;
             if !table::exceeds(payoffs, top, cell) {
@@ -135,6 +124,5 @@ pub fn write_best(
                 number += 1;
             }
         }
-        t += 1;
     }
 }

@@ -1,54 +1,47 @@
-// Lists of strikes. Whatever list of strikes is made on a table, the equilibria listed over the survivors are the whole table's: demand 3,
-// which the contract of `strikes` has. The table is one value through all the calls of a list: nobody writes it meanwhile.
+// Lists of strikes. Whatever list of strikes is made on a table, the equilibria listed over the
+// survivors are the whole table's: demand 3, which the contract of `strikes` has. The table is one
+// value through all the calls of a list: nobody writes it meanwhile.
 #![tactic(auto)]
 
 ghost use Rattle.std.specs.Prelude.{◌≡◌, cond, map, ℕ, ◌<◌, ◌≤◌, length, set};
-ghost use Rattle.refusal.specs.Told.{values, refused, told_usize, status, tells};
+ghost use Rattle.refusal.specs.Told.{values, refused, told, status, tells};
 ghost use Rattle.written_lists.specs.Outputs.{over};
 ghost use Rattle.payoff_tables.specs.Meaning.{Table};
 ghost use Rattle.survivors.specs.Survivors.{fresh_of, no_survivors};
 ghost use Rattle.strike_chains.specs.Answers.{calls_of, chain, accepted_of, dominator_of, answers_said, strikes_answer, strikes_leave, strikes_written};
 ghost use Rattle.strike_chains.specs.Demand3.{Demand3};
 
-use refusal::{NormalFormError, UnitResult, UsizeResult};
+use refusal::NormalFormError;
 use survivor_calls::StrikeResult;
 use survivors::Survivors;
-use table::{MAX_PLAYERS, StrategySpace};
 
 // What a list of strikes that 13 refuses hands back: 13 beside P 0, counts 0 and no mark.
 fn too_short() -> StrikeResult
-    ensures { (told_usize result.answer ≡ refused 13) × (result.survivors ≡ no_survivors) }
+    ensures { (told result.answer ≡ refused 13) × (result.survivors ≡ no_survivors) }
 {
-    let space = StrategySpace {
-        players: 0,
-        counts: [0usize; MAX_PLAYERS],
-    };
-    survivor_calls::refuse(
-        NormalFormError::OutputTooShort,
-        survivors::all_marked(space),
-    )
+    survivor_calls::refuse(NormalFormError::OutputTooShort, survivors::none())
 }
 
-// Writes the answer to a strike at a place of the two outputs: 0 or the refusal's number, and the dominator, 0 where refused. 1 where it was
-// accepted, and else 0.
+// Writes the answer to a strike at a place of the two outputs: 0 or the refusal's number, and the
+// dominator, 0 where refused. 1 where it was accepted, and else 0.
 fn write_answer(
-    answer: UsizeResult,
+    answer: Result<usize, NormalFormError>,
     place: usize,
     answers: &mut [u32],
     dominators: &mut [usize],
 ) -> usize
     requires { (place < length answers.old) × (place < length dominators.old) }
-    ensures value { result ≡ cond (tells (told_usize answer)) 1 0 }
-    ensures answers_after { answers.new ≡ set answers.old place (status (told_usize answer)) }
-    ensures dominators_after { dominators.new ≡ set dominators.old place (dominator_of (told_usize answer)) }
+    ensures value { result ≡ cond (tells (told answer)) 1 0 }
+    ensures answers_after { answers.new ≡ set answers.old place (status (told answer)) }
+    ensures dominators_after { dominators.new ≡ set dominators.old place (dominator_of (told answer)) }
 {
     match answer {
-        UsizeResult::Ok(t) => {
+        Ok(t) => {
             answers[place] = 0;
             dominators[place] = t;
             1
         }
-        UsizeResult::Err(e) => {
+        Err(e) => {
             answers[place] = e.number();
             dominators[place] = 0;
             0
@@ -56,8 +49,8 @@ fn write_answer(
     }
 }
 
-// Runs the calls that two lists name on a table without refusals, from its fresh survivors: how many were accepted, beside the survivors that
-// the last one handed back. Each answer is written.
+// Runs the calls that two lists name on a table without refusals, from its fresh survivors: how
+// many were accepted, beside the survivors that the last one handed back. Each answer is written.
 fn strike_each(
     counts: &[usize],
     payoffs: &[f64],
@@ -71,18 +64,17 @@ fn strike_each(
     requires survivors_value { survivors ≡ fresh_of counts.now }
     requires strategies_in_bounds { length (calls_of players.now strategies.now) ≤ length answers.old }
     requires strategies_in_bounds_2 { length (calls_of players.now strategies.now) ≤ length dominators.old }
-    ensures answer_value { told_usize result.answer ≡ values (accepted_of (chain counts.now payoffs.now (calls_of players.now strategies.now)).answers) }
+    ensures answer_value { told result.answer ≡ values (accepted_of (chain counts.now payoffs.now (calls_of players.now strategies.now)).answers) }
     ensures survivors_value_2 { result.survivors ≡ (chain counts.now payoffs.now (calls_of players.now strategies.now)).survivors }
     ensures answers_after { answers.new ≡ over (map status (chain counts.now payoffs.now (calls_of players.now strategies.now)).answers) answers.old }
     ensures dominators_after { dominators.new ≡ over (map dominator_of (chain counts.now payoffs.now (calls_of players.now strategies.now)).answers) dominators.old }
 {
-    let number = table::lesser(players.len(), strategies.len());
+    let number = players.len().min(strategies.len());
     // the table has P payoffs for each profile
     let profiles = payoffs.len() / counts.len();
     let mut left = survivors;
-    let mut accepted: usize = 0;
-    let mut i: usize = 0;
-    while i < number {
+    let mut accepted = 0;
+    for i in 0..number {
         let struck = survivor_calls::strike_marked(
             counts,
             payoffs,
@@ -91,17 +83,15 @@ fn strike_each(
             players[i],
             strategies[i],
         );
-        let answer = struck.answer;
-        let taken = write_answer(answer, i, answers, dominators);
+        let taken = write_answer(struck.answer, i, answers, dominators);
         // a refused strike hands back what it was given
         if 0 < taken {
             left = struck.survivors;
         }
         accepted += taken;
-        i += 1;
     }
     StrikeResult {
-        answer: UsizeResult::Ok(accepted),
+        answer: Ok(accepted),
         survivors: left,
     }
 }
@@ -124,21 +114,19 @@ pub fn strikes(
     answers: &mut [u32],
     dominators: &mut [usize],
 ) -> StrikeResult
-    ensures answer_value { told_usize result.answer ≡ strikes_answer counts.now payoffs.now (calls_of players.now strategies.now) (length answers.old) (length dominators.old) }
+    ensures answer_value { told result.answer ≡ strikes_answer counts.now payoffs.now (calls_of players.now strategies.now) (length answers.old) (length dominators.old) }
     ensures survivors_value { result.survivors ≡ strikes_leave counts.now payoffs.now (calls_of players.now strategies.now) (length answers.old) (length dominators.old) }
     ensures answers_after { answers.new ≡ over (map status (strikes_written counts.now payoffs.now (calls_of players.now strategies.now) (length answers.old) (length dominators.old))) answers.old }
     ensures dominators_after { dominators.new ≡ over (map dominator_of (strikes_written counts.now payoffs.now (calls_of players.now strategies.now) (length answers.old) (length dominators.old))) dominators.old }
     ensures demand3 { let cs = calls_of players.now strategies.now in
-        (n : ℕ) → told_usize result.answer ≡ values n
+        (n : ℕ) → told result.answer ≡ values n
         → Demand3 counts.now payoffs.now cs n (answers_said (length cs) answers.new dominators.new) result.survivors }
 {
     let made = survivors::fresh(counts, payoffs);
-    let answer = made.answer;
-    let survivors = made.survivors;
-    match answer {
-        UnitResult::Err(e) => survivor_calls::refuse(e, survivors),
-        UnitResult::Ok => {
-            let number = table::lesser(players.len(), strategies.len());
+    match made.answer {
+        Err(e) => survivor_calls::refuse(e, made.survivors),
+        Ok(()) => {
+            let number = players.len().min(strategies.len());
             if answers.len() < number {
                 return too_short();
             }
@@ -146,7 +134,13 @@ pub fn strikes(
                 return too_short();
             }
             strike_each(
-                counts, payoffs, survivors, players, strategies, answers, dominators,
+                counts,
+                payoffs,
+                made.survivors,
+                players,
+                strategies,
+                answers,
+                dominators,
             )
         }
     }

@@ -1,5 +1,6 @@
--- A finite f64 is the one f64 with its sign and its size (`one_value`), and a finite f64 less 0.0 is itself (`less_zero`): what is rounded there
--- is a value already. So a sum that starts at −0.0 and one that starts at 0.0 are the same, less 1.0 (`sum-start`): they differ only where all
+-- A finite f64 is the one f64 with its sign and its size (`one_value`), and a finite f64 less 0.0
+-- is itself (`less_zero`): what is rounded there is a value already. So a sum that starts at −0.0
+-- and one that starts at 0.0 are the same, less 1.0 (`sum-start`): they differ only where all
 -- numbers are −0.0. Assumes nothing.
 use mathlib.Core.Path.{◌≡◌, refl, sym, ap, ◌∙◌, subst}
 use mathlib.Core.Logic.{◌⊎◌, inl, inr}

@@ -1,4 +1,5 @@
--- The distance from 0 (`distance-law`), as the code compares it: by a negation under a test (`far-below`, `far-above`). Assumes nothing.
+-- The distance from 0 (`distance-law`), as the code compares it: by a negation under a test
+-- (`far-below`, `far-above`). Assumes nothing.
 use mathlib.Core.Logic.{◌⊎◌, inl, inr}
 use mathlib.Core.Path.{◌≡◌, refl, sym, ap, ◌∙◌}
 use mathlib.Core.Bool.{true, false, true≢false}

@@ -1,7 +1,9 @@
--- Sums in a given order: what comes last is added last (`sum-last`, `sum-next`, `products-last`), only the terms at the indices of the list
--- count (`products-cong`), the indices may be mapped (`products-map`) and the factors may change places (`products-swap`). And sums of
--- products taken side by side, each in its order: at the start and one term on (`side-start`, `side-next`, `side-below`), true because a turn
--- adds its term to each of them (`added_next`, `added-at`). Assumes nothing.
+-- Sums in a given order: what comes last is added last (`sum-last`, `sum-next`, `products-last`),
+-- only the terms at the indices of the list count (`products-cong`), the indices may be mapped
+-- (`products-map`) and the factors may change places (`products-swap`). And sums of products taken
+-- side by side, each in its order: at the start and one term on (`side-start`, `side-next`,
+-- `side-below`), true because a turn adds its term to each of them (`added_next`, `added-at`,
+-- `added_head`). Assumes nothing.
 use mathlib.Core.Path.{◌≡◌, refl, sym, ap, ◌∙◌, subst}
 use mathlib.Core.Bool.{Bool, true, false, cond}
 use mathlib.Core.List.{List, [], ◌∷◌, ◌++◌, map, map-append, map-map}
@@ -9,7 +11,7 @@ use Prim.Native.Nat.{ℕ, zero, suc, ◌+◌, ◌*◌, ◌≤◌, ◌<◌, zero-
 use native.Mathlib.Nat.{not-suc-le-zero, le_of_suc-le-suc, mul_comm}
 use native.Mathlib.Numerals.{add-one}
 use native.Mathlib.Omega.{arith}
-use lib.ListN.{length, get_or, set, take, replicate, length-replicate, get_or-replicate}
+use lib.ListN.{length, get_or, set, take, drop, replicate, length-replicate, get_or-replicate}
 use lib.Seq.{take-suc}
 use lib.Dec.{T, eqb}
 use lib.Ieee.{Float, nan, inf, fin, binary64, unlike, up, down, round, add, mul, fits}
@@ -123,7 +125,14 @@ added_next n f xs h = go n f xs h ∙ ap (λ (m : ℕ). added m f xs) (one n)
     go zero f (x ∷ xs) h = refl
     go (suc n) f (x ∷ xs) h = ap {B = List Float} (λ ys. add binary64 x (f 0) ∷ ys) (go n (λ t. f (suc t)) xs (le_of_suc-le-suc h))
 
--- the sums of a(i) × b(t, i) over a list of indices, side by side in `size` places: that of t at place t, for t below `count`
+-- the terms added to the first n elements alone, and the others after them
+pub added_head : (n : ℕ) (f : ℕ → Float) (xs : List Float) → added n f (take n xs) ++ drop n xs ≡ added n f xs
+added_head zero f xs = refl
+added_head (suc n) f [] = refl
+added_head (suc n) f (x ∷ xs) = ap {B = List Float} (λ ys. add binary64 x (f 0) ∷ ys) (added_head n (λ t. f (suc t)) xs)
+
+-- the sums of a(i) × b(t, i) over a list of indices, side by side in `size` places: that of t at
+-- place t, for t below `count`
 abbrev pub SideBySide : {I : Type 0} → ℕ → ℕ → (I → Float) → (ℕ → I → Float) → List I → List Float → Type 0
 SideBySide size count a b is xs = (length xs ≡ size) × ((t : ℕ) → t < count → get_or xs t nan ≡ sum_of_products a (b t) is)
 

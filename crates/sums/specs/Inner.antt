@@ -1,5 +1,6 @@
--- Where sums taken side by side find their terms, by a table's strides: the number of own choice s and others' choice o stands at
--- s × own + o × other; and what one turn adds to them. Assumes nothing.
+-- Where sums taken side by side find their terms, by a table's strides: the number of own choice s
+-- and others' choice o stands at s × own + o × other; and what one turn adds to them. Assumes
+-- nothing.
 use Rattle.std.specs.Prelude.{List, [], ◌∷◌, ℕ, zero, suc, ◌+◌, ◌*◌, ◌<◌, length, get_or, Float}
 use Rattle.std.specs.Float.{nan, binary64}
 use Rattle.std.specs.Float.Ieee.{add}

@@ -7,7 +7,7 @@ ghost use Rattle.std.specs.Float.Ieee.{sub, mul};
 ghost use Rattle.sums.specs.Sums.{rounded_sum};
 ghost use Rattle.sums.specs.Inner.{added};
 
-// Infinity, which no constant can be.
+// Infinity.
 pub fn infinity() -> f64
     ensures { result ≡ inf false }
 {
@@ -19,16 +19,15 @@ pub fn sum(values: &[f64]) -> f64
     ensures { result ≡ rounded_sum values.now }
 {
     let mut total = 0.0;
-    let mut i = 0;
-    while i < values.len() {
-        total = total + values[i];
-        i += 1;
+    for value in values {
+        total += *value;
     }
     total
 }
 
-// Adds weight × (number − less) to the first `count` sums: to sum t with the number at t × step + first. The caller proves that there are so
-// many sums, and that each of these numbers stands in the table.
+// Adds weight × (number − less) to the first `count` sums: to sum t with the number at
+// t × step + first. The caller proves that there are so many sums, and that each of these numbers
+// stands in the table.
 pub fn add_terms(
     sums: &mut [f64],
     count: usize,
@@ -42,9 +41,7 @@ pub fn add_terms(
     requires by_index { (t : ℕ) → t < count → t * step + first < length table.now }
     ensures { sums.new ≡ added count (λ t. mul binary64 weight (sub binary64 (get_or table.now (t * step + first) nan) less)) sums.old }
 {
-    let mut t = 0;
-    while t < count {
-        sums[t] = sums[t] + weight * (table[t * step + first] - less);
-        t += 1;
+    for (t, sum) in sums[..count].iter_mut().enumerate() {
+        *sum += weight * (table[t * step + first] - less);
     }
 }

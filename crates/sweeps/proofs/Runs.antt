@@ -18,7 +18,7 @@ use Rattle.strikes.specs.Answers.{handed_back, strike_answer, strike_leaves}
 use Rattle.strike_chains.specs.Answers.{chain_from}
 use Rattle.strike_chains.proofs.Chain.{Good, fresh_good, ran}
 use Rattle.outputs.specs.Put.{past, Puts}
-use Rattle.outputs.proofs.Put.{puts_none, puts_more, puts_same, puts_length, puts_within}
+use Rattle.outputs.proofs.Puts.{puts_none, puts_more, puts_same, puts_length, puts_within}
 use Rattle.sweeps.specs.declared.Progress.{Progress}
 use Rattle.strike_sweeps.specs.Sweeps.{Strike, struck_by, sweep_calls, struck_in, sweeps, strike_numbers, strikes_numbers}
 use Rattle.strike_sweeps.specs.Meaning.{Sweeps, ended}

@@ -8,9 +8,10 @@
 
 ghost use Rattle.std.specs.Prelude.{◌<◌};
 
-use catalogue::{KEYS, NumberResult};
-use refusal::UsizeOption;
-use test_print::{number, numbers, text};
+use catalogue::KEYS;
+use std::alloc::AllocError;
+use std::io;
+use test_print::tell_all;
 
 // How many tables of eight digits there are.
 const TABLES: usize = 65536;
@@ -18,15 +19,28 @@ const TABLES: usize = 65536;
 // How many tables of each number are told by their keys.
 const EACH: usize = 4;
 
-fn one_more(n: usize) -> usize {
-    std::num::wrapping_add_usize(n, 1)
+// How often a number came, and the keys of the first tables that it came for.
+#[derive(Clone, Copy)]
+struct Tally {
+    times: usize,
+    keys: [usize; EACH],
+}
+
+impl Tally {
+    // Counts that the table of this key has the number.
+    fn note(&mut self, key: usize) {
+        if let Some(place) = self.keys.get_mut(self.times) {
+            *place = key;
+        }
+        self.times = self.times.saturating_add(1);
+    }
 }
 
 // The base-4 digit of k that is worth `worth`.
 fn digit(k: usize, worth: usize) -> f64
     requires { 0 < worth }
 {
-    std::num::nearest_u64_to_f64((k / worth % 4) as u64)
+    std::num::nearest_usize_to_f64(k / worth % 4)
 }
 
 // The table whose digits are those of k, profile after profile.
@@ -43,62 +57,41 @@ fn table_of(k: usize) -> [f64; 8] {
     ]
 }
 
-// Counts that the table of k has the number n, and keeps k where n came fewer than four times
-// before.
-fn note(came: &mut [usize; KEYS], keys: &mut [usize; KEYS * EACH], n: usize, k: usize) {
-    if n < KEYS {
-        let times = came[n];
-        if times < EACH {
-            keys[n * EACH + times] = k;
-        }
-        came[n] = one_more(times);
-    }
-}
-
-// Every table's number into the counts; how many had none.
-fn survey(came: &mut [usize; KEYS], keys: &mut [usize; KEYS * EACH]) -> usize {
-    let mut without = 0;
-    let mut k = 0;
-    while k < TABLES {
-        let payoffs = table_of(k);
-        if let NumberResult::Ok(told) = catalogue::number(&[2, 2], &payoffs) {
-            match told {
-                UsizeOption::Some(n) => note(came, keys, n, k),
-                UsizeOption::None => without = one_more(without),
+// Notes each table's number; how many had none.
+fn survey(tallies: &mut [Tally; KEYS]) -> usize {
+    let mut without = 0usize;
+    for key in 0..TABLES {
+        match catalogue::number(&[2, 2], &table_of(key)) {
+            Ok(Some(n)) => {
+                if let Some(tally) = tallies.get_mut(n) {
+                    tally.note(key);
+                }
             }
+            Ok(None) => without = without.saturating_add(1),
+            Err(_) => {}
         }
-        k += 1;
     }
     without
 }
 
-// The line of a number.
-fn line(n: usize, times: usize, keys: &[usize]) {
-    text(b"number");
-    number(n);
-    text(b": came");
-    number(times);
-    text(b", keys");
-    numbers(keys);
-    text(b"\n");
-}
-
-fn lines(came: &[usize; KEYS], keys: &[usize; KEYS * EACH]) {
-    let all = &keys[..];
-    let mut n = 0;
-    while n < KEYS {
-        let from = n * EACH;
-        line(n, came[n], &all[from..from + EACH]);
-        n += 1;
+// A line for each number.
+fn tell_numbers(tallies: &[Tally; KEYS], out: &mut String) -> Result<(), AllocError> {
+    for (n, tally) in tallies.iter().enumerate() {
+        let times = tally.times;
+        write!(out, "number {n}: came {times}, keys")?;
+        tell_all(&tally.keys, out)?;
+        out.push_str("\n")?;
     }
+    Ok(())
 }
 
-fn main() {
-    let mut came = [0; KEYS];
-    let mut keys = [0; KEYS * EACH];
-    let without = survey(&mut came, &mut keys);
-    lines(&came, &keys);
-    text(b"none: came");
-    number(without);
-    text(b"\n");
+fn main(rt: HostRuntime) -> io::Result<()> {
+    let mut tallies = [Tally {
+        times: 0,
+        keys: [0; EACH],
+    }; KEYS];
+    let without = survey(&mut tallies);
+    let mut out = String::new(rt.alloc());
+    tell_numbers(&tallies, &mut out)?;
+    println!(rt; "{out}none: came {without}")
 }

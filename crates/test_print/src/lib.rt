@@ -1,212 +1,196 @@
-// What the test programs print to standard output, as docs/TESTING.md has it: numbers, floats, what
-// a call told and what its outputs hold, each after a space.
+// What the test programs print, as docs/TESTING.md has it: numbers, floats, what a call told and what
+// its outputs hold, each after a space.
 #![tactic(auto)]
 
-use refusal::{BoolResult, ListingResult, UnitResult, UsizeResult};
+ghost use Rattle.std.specs.Prelude.{OnOk};
+ghost use Rattle.std.specs.String.{string_bytes};
+ghost use Rattle.test_print.specs.Told.{IsAdded};
 
-// Standard output.
-const STDOUT: i32 = 1;
+use refusal::{Listed, NormalFormError};
+use std::alloc::AllocError;
 
 // The most elements of an output that is printed whole.
 const WHOLE: usize = 128;
 
-// The bytes as they are.
-pub fn text(bytes: &[u8]) {
-    io::write_all(STDOUT, bytes);
+// The first and the last elements of a longer one that are printed.
+const FIRST: usize = 4;
+
+const LAST: usize = 5;
+
+// What a line of a test program can tell. It is written after a space.
+pub trait Tell: Copy {
+    fn tell(self, out: &mut String) -> Result<(), AllocError>
+        ensures added { OnOk result (IsAdded (string_bytes out.old) (string_bytes out.new)) };
 }
 
-// A space and the number in decimal.
-pub fn number(n: usize) {
-    text(b" ");
-    io::print_decimal(STDOUT, n as u64);
+// What an output's element can be. Its word counts in the sums of a long output.
+pub trait Element: Tell {
+    fn word(self) -> usize;
 }
 
-// Each number of the list.
-pub fn numbers(list: &[usize]) {
-    let mut i = 0;
-    while i < list.len() {
-        number(list[i]);
-        i += 1;
+// An accepted call that has nothing more to tell.
+impl Tell for () {
+    fn tell(self, _out: &mut String) -> Result<(), AllocError> {
+        Ok(())
     }
 }
 
-// A float's bits, in hexadecimal. A NaN has none here.
-pub fn bits(x: f64) {
-    text(b" ");
-    if x == x {
-        io::print_hex(STDOUT, f64::to_bits(x), 16);
-    } else {
-        text(b"NaN");
+impl Tell for bool {
+    fn tell(self, out: &mut String) -> Result<(), AllocError> {
+        out.push_str(if self { " yes" } else { " no" })
     }
 }
 
-// A float that is not negative, no -0.0 and no NaN: a whole number in decimal, infinity by its
-// name, and any other by its bits.
-fn magnitude(x: f64) {
-    if x == 1.0 / 0.0 {
-        text(b"infinity");
-        return;
+impl Tell for usize {
+    fn tell(self, out: &mut String) -> Result<(), AllocError> {
+        write!(out, " {self}")
     }
-    if x > -1.0 {
-        if x < 18446744073709551616.0 {
-            let n = std::num::truncating_f64_to_u64(x);
-            if std::num::nearest_u64_to_f64(n) == x {
-                io::print_decimal(STDOUT, n);
-                return;
-            }
+}
+
+impl Element for usize {
+    fn word(self) -> usize {
+        self
+    }
+}
+
+impl Tell for u8 {
+    fn tell(self, out: &mut String) -> Result<(), AllocError> {
+        write!(out, " {self}")
+    }
+}
+
+impl Element for u8 {
+    fn word(self) -> usize {
+        usize::from(self)
+    }
+}
+
+impl Tell for u32 {
+    fn tell(self, out: &mut String) -> Result<(), AllocError> {
+        write!(out, " {self}")
+    }
+}
+
+impl Element for u32 {
+    fn word(self) -> usize {
+        self as usize
+    }
+}
+
+// The magnitude, after a minus sign where it is negative or -0.0, or `NaN`.
+impl Tell for f64 {
+    fn tell(self, out: &mut String) -> Result<(), AllocError> {
+        if self.is_nan() {
+            return out.push_str(" NaN");
+        }
+        out.push_str(if self.is_sign_negative() { " -" } else { " " })?;
+        tell_magnitude(self.abs(), out)
+    }
+}
+
+// Its bits; those of one NaN for every NaN.
+impl Element for f64 {
+    fn word(self) -> usize {
+        if self.is_nan() {
+            0x7ff8000000000000
+        } else {
+            self.to_bits() as usize
         }
     }
-    text(b"bits");
-    bits(x);
 }
 
-// A float: its magnitude, after a minus sign where it is negative or -0.0, or `NaN`.
-pub fn float(x: f64) {
-    if x != x {
-        text(b" NaN");
-        return;
-    }
-    if (x < 0.0) | (1.0 / x < 0.0) {
-        text(b" -");
-        magnitude(-x);
-    } else {
-        text(b" ");
-        magnitude(x);
-    }
-}
-
-// Each float of the list.
-pub fn floats(list: &[f64]) {
-    let mut i = 0;
-    while i < list.len() {
-        float(list[i]);
-        i += 1;
-    }
-}
-
-// Whether a call said yes.
-pub fn answer(yes: bool) {
-    if yes {
-        text(b" yes");
-    } else {
-        text(b" no");
+// The total and the number written of a listing.
+impl Tell for Listed {
+    fn tell(self, out: &mut String) -> Result<(), AllocError> {
+        self.total.tell(out)?;
+        self.written.tell(out)
     }
 }
 
 // A refusal's number.
-pub fn refused(number: u32) {
-    text(b" refused ");
-    io::print_decimal(STDOUT, number as u64);
-}
-
-// Whether a call was accepted, or the refusal's number.
-pub fn told_unit(r: UnitResult) {
-    match r {
-        UnitResult::Ok => text(b" ok"),
-        UnitResult::Err(e) => refused(e.number()),
+impl Tell for NormalFormError {
+    fn tell(self, out: &mut String) -> Result<(), AllocError> {
+        let number = self.number();
+        write!(out, " refused {number}")
     }
 }
 
-// The number of an accepted call, or the refusal's.
-pub fn told_usize(r: UsizeResult) {
-    match r {
-        UsizeResult::Ok(n) => {
-            text(b" ok");
-            number(n);
+// What a call told: that it was accepted and its value, or the refusal.
+impl<T: Tell> Tell for Result<T, NormalFormError> {
+    fn tell(self, out: &mut String) -> Result<(), AllocError> {
+        match self {
+            Ok(value) => {
+                out.push_str(" ok")?;
+                value.tell(out)
+            }
+            Err(e) => e.tell(out),
         }
-        UsizeResult::Err(e) => refused(e.number()),
     }
 }
 
-// The total and the number written of an accepted listing, or the refusal's number.
-pub fn told_listing(r: ListingResult) {
-    match r {
-        ListingResult::Ok(listed) => {
-            text(b" ok");
-            number(listed.total);
-            number(listed.written);
+// A float that has no minus sign and is no NaN: a whole number below 2^64 in decimal, infinity by its
+// name, and any other by its bits.
+fn tell_magnitude(x: f64, out: &mut String) -> Result<(), AllocError>
+    ensures added { OnOk result (IsAdded (string_bytes out.old) (string_bytes out.new)) }
+{
+    if x.is_infinite() {
+        return out.push_str("infinity");
+    }
+    if x < 18446744073709551616.0 {
+        let n = std::num::saturating_f64_to_u64(x);
+        if std::num::nearest_u64_to_f64(n) == x {
+            return write!(out, "{n}");
         }
-        ListingResult::Err(e) => refused(e.number()),
     }
+    out.push_str("bits")?;
+    tell_bits(x, out)
 }
 
-// Whether an accepted call said yes, or the refusal's number.
-pub fn told_bool(r: BoolResult) {
-    match r {
-        BoolResult::Ok(yes) => {
-            text(b" ok");
-            answer(yes);
-        }
-        BoolResult::Err(e) => refused(e.number()),
+// A float's bits, in hexadecimal. A NaN has none here.
+pub fn tell_bits(x: f64, out: &mut String) -> Result<(), AllocError>
+    ensures added { OnOk result (IsAdded (string_bytes out.old) (string_bytes out.new)) }
+{
+    if x.is_nan() {
+        return out.push_str(" NaN");
     }
+    let bits = x.to_bits();
+    write!(out, " {bits:016x}")
 }
 
-// ---- outputs
+// Each element of the list.
+pub fn tell_all<T: Tell>(list: &[T], out: &mut String) -> Result<(), AllocError>
+    ensures added { OnOk result (IsAdded (string_bytes out.old) (string_bytes out.new)) }
+{
+    for x in list {
+        x.tell(out)?;
+    }
+    Ok(())
+}
 
-// The sum of the numbers, modulo 2^64, and the sum of the sums of the first one, the first two and so
+// The sum of the words, modulo 2^64, and the sum of the sums of the first one, the first two and so
 // on, which tells their order too.
-fn told_sums(list: &[usize]) {
-    let mut all = 0;
-    let mut sums = 0;
-    let mut i = 0;
-    while i < list.len() {
-        all = std::num::wrapping_add_usize(all, list[i]);
-        sums = std::num::wrapping_add_usize(sums, all);
-        i += 1;
+fn tell_sums<T: Element>(list: &[T], out: &mut String) -> Result<(), AllocError>
+    ensures added { OnOk result (IsAdded (string_bytes out.old) (string_bytes out.new)) }
+{
+    let mut all = 0usize;
+    let mut sums = 0usize;
+    for x in list {
+        all = all.wrapping_add(x.word());
+        sums = sums.wrapping_add(all);
     }
-    text(b" sum");
-    number(all);
-    number(sums);
+    write!(out, " sum {all} {sums}")
 }
 
-// The bits of a float; those of one NaN for every NaN.
-fn known_bits(x: f64) -> u64 {
-    if x == x {
-        f64::to_bits(x)
-    } else {
-        0x7ff8000000000000
+// An output: whole, or its first and last elements and the sums.
+pub fn tell_output<T: Element>(list: &[T], out: &mut String) -> Result<(), AllocError>
+    ensures added { OnOk result (IsAdded (string_bytes out.old) (string_bytes out.new)) }
+{
+    out.push_str(",")?;
+    if list.len() <= WHOLE {
+        return tell_all(list, out);
     }
-}
-
-// The same of the floats' bits.
-fn told_bits_sums(list: &[f64]) {
-    let mut all = 0;
-    let mut sums = 0;
-    let mut i = 0;
-    while i < list.len() {
-        all = std::num::wrapping_add_usize(all, known_bits(list[i]) as usize);
-        sums = std::num::wrapping_add_usize(sums, all);
-        i += 1;
-    }
-    text(b" sum");
-    number(all);
-    number(sums);
-}
-
-// An output of numbers: whole, or the first four, the last five and the sums.
-pub fn output(list: &[usize]) {
-    text(b",");
-    if WHOLE < list.len() {
-        let from = list.len() - 5;
-        numbers(&list[0..4]);
-        text(b" ..");
-        numbers(&list[from..]);
-        told_sums(list);
-    } else {
-        numbers(list);
-    }
-}
-
-// The same of floats.
-pub fn output_floats(list: &[f64]) {
-    text(b",");
-    if WHOLE < list.len() {
-        let from = list.len() - 5;
-        floats(&list[0..4]);
-        text(b" ..");
-        floats(&list[from..]);
-        told_bits_sums(list);
-    } else {
-        floats(list);
-    }
+    tell_all(&list[..FIRST], out)?;
+    out.push_str(" ..")?;
+    tell_all(&list[list.len() - LAST..], out)?;
+    tell_sums(list, out)
 }

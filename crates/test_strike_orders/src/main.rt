@@ -10,10 +10,11 @@
 // Only counts are printed, and the table's number where one of these does not hold.
 #![tactic(auto)]
 
-use refusal::{Listed, ListingResult, UsizeResult};
+use refusal::{Listed, NormalFormError};
+use std::alloc::{AllocError, Global};
+use std::io;
 use survivors::Survivors;
-use table::{MAX_MARKS, MAX_PLAYERS, MAX_STRATEGIES};
-use test_print::{number, text};
+use table::{MAX_PLAYERS, MAX_STRATEGIES};
 
 const TABLES: usize = 1000;
 
@@ -57,7 +58,7 @@ fn next(x: u64) -> u64 {
 
 // The remainder by n, or 0 where n is 0.
 fn modulo(a: usize, n: usize) -> usize {
-    if n == 0 { 0 } else { a % n }
+    a.checked_rem(n).unwrap_or(0)
 }
 
 // A number below n that x gives, or 0.
@@ -65,177 +66,178 @@ fn below(x: u64, n: usize) -> usize {
     modulo((x >> 11) as usize, n)
 }
 
-fn one_more(n: usize) -> usize {
-    std::num::wrapping_add_usize(n, 1)
+fn add(count: &mut usize, n: usize) {
+    *count = count.saturating_add(n);
 }
 
 // ---- tables
 
-// The number that the generator came to, and how many cells were drawn.
+// How a payoff is drawn: among three values, where a level is worth so much more than the one below
+// it; or as minus the distance of twice the own level from the next player's: the highest levels are
+// dominated, and once they are struck, those below them.
 #[derive(Clone, Copy)]
+enum Kind {
+    Worth(usize),
+    Distance,
+}
+
+// A table that was drawn, and the number that the generator came to.
+#[derive(Drop)]
 struct Drawn {
+    counts: Vec<usize>,
+    payoffs: Vec<f64>,
     x: u64,
-    cells: usize,
 }
 
 // Up to 6 strategies of a single player, and one less for each player more.
-fn drawn_counts(players: usize, x: u64) -> [usize; PLAYERS] {
-    let most = std::num::wrapping_sub_usize(SPREAD, players);
-    let y = next(x);
-    let z = next(y);
-    let last = next(z);
-    [
-        one_more(below(x, most)),
-        one_more(below(y, most)),
-        one_more(below(z, most)),
-        one_more(below(last, most)),
-    ]
+fn drawn_counts(players: usize, x: u64, alloc: Global) -> Result<Vec<usize>, AllocError> {
+    let most = SPREAD.saturating_sub(players);
+    let mut counts = Vec::new(alloc);
+    let mut y = x;
+    for _ in 0..players {
+        counts.push(below(y, most).saturating_add(1))?;
+        y = next(y);
+    }
+    Ok(counts)
 }
 
 // The level of a player's choice: the strategies, from one on that the shift gives, have the levels
 // 0, 1 and so on.
 fn level(counts: &[usize], profile: &[usize; MAX_PLAYERS], player: usize, shift: usize) -> f64 {
-    if MAX_PLAYERS <= player {
-        return 0.0;
+    match (counts.get(player), profile.get(player)) {
+        (Some(count), Some(choice)) => {
+            let moved = choice.wrapping_add(shift).wrapping_add(player);
+            std::num::nearest_usize_to_f64(modulo(moved, *count))
+        }
+        _ => 0.0,
     }
-    if counts.len() <= player {
-        return 0.0;
-    }
-    let moved = std::num::wrapping_add_usize(
-        std::num::wrapping_add_usize(profile[player], shift),
-        player,
-    );
-    std::num::nearest_u64_to_f64(modulo(moved, counts[player]) as u64)
 }
 
-// A player's payoff. In kinds 0 to 2 it is drawn among three values, and a level is worth 0, 1 or 2
-// more than the one below it. In kind 3 it is minus the distance of twice the own level from the
-// next
-// player's: the highest levels are dominated, and once they are struck, those below them. A zero
-// has
-// either sign.
+// A player's payoff. A zero has either sign.
 fn drawn_payoff(
     counts: &[usize],
     profile: &[usize; MAX_PLAYERS],
     player: usize,
-    kind: usize,
+    kind: Kind,
     shift: usize,
     x: u64,
 ) -> f64 {
     let own = level(counts, profile, player, shift);
-    let mut value = 0.0;
-    if kind == 3 {
-        let after = modulo(one_more(player), counts.len());
-        let far = own + own - level(counts, profile, after, shift);
-        value = if far < 0.0 { far } else { -far };
-    } else {
-        let worth = own * std::num::nearest_u64_to_f64(kind as u64);
-        value = std::num::nearest_u64_to_f64(below(x, 3) as u64) - 2.0 + worth;
-    }
-    if value != 0.0 {
-        return value;
-    }
-    if x % 2 == 1 { -0.0 } else { 0.0 }
-}
-
-// Draws the payoffs of every profile.
-fn draw_payoffs(
-    counts: &[usize],
-    kind: usize,
-    shift: usize,
-    seed: u64,
-    payoffs: &mut [f64],
-) -> Drawn {
-    let mut x = seed;
-    let mut profile = [0; MAX_PLAYERS];
-    let mut player = 0;
-    let mut i = 0;
-    while i < payoffs.len() {
-        x = next(x);
-        payoffs[i] = drawn_payoff(counts, &profile, player, kind, shift, x);
-        i += 1;
-        player = one_more(player);
-        if counts.len() <= player {
-            player = 0;
-            let step = profile_step::advance_profile(counts, profile);
-            if !step.more {
-                return Drawn { x: x, cells: i };
-            }
-            profile = step.profile;
+    let value = match kind {
+        Kind::Distance => {
+            let after = modulo(player.wrapping_add(1), counts.len());
+            -(own + own - level(counts, profile, after, shift)).abs()
         }
+        Kind::Worth(worth) => {
+            let drawn = std::num::nearest_usize_to_f64(below(x, 3));
+            drawn - 2.0 + own * std::num::nearest_usize_to_f64(worth)
+        }
+    };
+    if value != 0.0 {
+        value
+    } else if x % 2 == 1 {
+        -0.0
+    } else {
+        0.0
     }
-    Drawn { x: x, cells: i }
 }
 
-// The first n of the values, or all of them where there are fewer.
-fn first(values: &[f64], n: usize) -> &[f64] {
-    if n < values.len() {
-        &values[0..n]
-    } else {
-        values
+// Draws the table of a number. The numbers of players and the kinds take turns.
+fn drawn_table(table: usize, x: u64, alloc: Global) -> Result<Drawn, AllocError> {
+    let counts = drawn_counts(table % PLAYERS + 1, x, alloc)?;
+    let kind = match table / PLAYERS % 4 {
+        3 => Kind::Distance,
+        worth => Kind::Worth(worth),
+    };
+    let shift = below(x, WIDTH);
+    let mut y = next(x);
+    let mut payoffs = Vec::new(alloc);
+    let mut profile = [0; MAX_PLAYERS];
+    for _ in 0..CELLS {
+        for player in 0..counts.len() {
+            y = next(y);
+            payoffs.push(drawn_payoff(&counts, &profile, player, kind, shift, y))?;
+        }
+        let step = profile_step::advance_profile(&counts, profile);
+        if !step.more {
+            break;
+        }
+        profile = step.profile;
     }
+    Ok(Drawn {
+        counts,
+        payoffs,
+        x: y,
+    })
 }
 
 // ---- the counts that are printed
 
-// What is counted, by its place.
-const COUNTED: usize = 11;
-
-const EACH_TABLE: usize = 0;
-
-const EACH_ORDER: usize = 1;
-
-const ACCEPTED: usize = 2;
-
-const DOMINATORS: usize = 3;
-
-const NO_PLAYER: usize = 4;
-
-const NO_STRATEGY: usize = 5;
-
-const NOT_DOMINATED: usize = 6;
-
-const EQUILIBRIA: usize = 7;
-
-const STRUCK: usize = 8;
-
-const SEVERAL: usize = 9;
-
-const DIFFERENCES: usize = 10;
-
-// What a strike that answered so is counted as. Any other refusal than 8, 14 and 15 is a
-// difference.
-fn place_of(answer: u32) -> usize {
-    match answer {
-        0 => ACCEPTED,
-        8 => NO_PLAYER,
-        14 => NO_STRATEGY,
-        15 => NOT_DOMINATED,
-        _ => DIFFERENCES,
-    }
+// What is counted, and the table of each order that differs.
+#[derive(Drop)]
+struct Tally {
+    tables: usize,
+    orders: usize,
+    accepted: usize,
+    dominators: usize,
+    no_player: usize,
+    no_strategy: usize,
+    not_dominated: usize,
+    equilibria: usize,
+    struck: usize,
+    several: usize,
+    other_refusals: usize,
+    differing: Vec<usize>,
 }
 
-fn add(tally: &mut [usize; COUNTED], place: usize, n: usize) {
-    if place < COUNTED {
-        tally[place] = std::num::wrapping_add_usize(tally[place], n);
-    }
-}
-
-// Prints the names, with the next count at each `;`.
-fn report(names: &[u8], tally: &[usize; COUNTED]) {
-    let mut place = 0;
-    let mut i = 0;
-    while i < names.len() {
-        if names[i] != b';' {
-            text(&names[i..i + 1]);
-        } else {
-            if place < COUNTED {
-                number(tally[place]);
-            }
-            text(b"\n");
-            place = one_more(place);
+impl Tally {
+    fn new(alloc: Global) -> Tally {
+        Tally {
+            tables: 0,
+            orders: 0,
+            accepted: 0,
+            dominators: 0,
+            no_player: 0,
+            no_strategy: 0,
+            not_dominated: 0,
+            equilibria: 0,
+            struck: 0,
+            several: 0,
+            other_refusals: 0,
+            differing: Vec::new(alloc),
         }
-        i += 1;
+    }
+
+    // Counts what a strike answered. Any other refusal than these three is a difference.
+    fn add_answer(&mut self, answer: Result<usize, NormalFormError>) {
+        match answer {
+            Ok(dominator) => {
+                add(&mut self.accepted, 1);
+                add(&mut self.dominators, dominator);
+            }
+            Err(NormalFormError::InvalidPlayer) => add(&mut self.no_player, 1),
+            Err(NormalFormError::NoSurvivingStrategy) => add(&mut self.no_strategy, 1),
+            Err(NormalFormError::NotDominated) => add(&mut self.not_dominated, 1),
+            Err(_) => add(&mut self.other_refusals, 1),
+        }
+    }
+
+    fn print(&self, rt: &impl Print) -> io::Result<()> {
+        for table in self.differing.iter() {
+            println!(rt; "table {table} differs")?;
+        }
+        let differences = self.other_refusals.saturating_add(self.differing.len());
+        println!(rt; "tables {}", self.tables)?;
+        println!(rt; "orders {}", self.orders)?;
+        println!(rt; "accepted {}", self.accepted)?;
+        println!(rt; "their dominators, summed {}", self.dominators)?;
+        println!(rt; "refused 8, {}", self.no_player)?;
+        println!(rt; "refused 14, {}", self.no_strategy)?;
+        println!(rt; "refused 15, {}", self.not_dominated)?;
+        println!(rt; "equilibria compared {}", self.equilibria)?;
+        println!(rt; "tables in which something was struck {}", self.struck)?;
+        println!(rt; "of several players {}", self.several)?;
+        println!(rt; "differences {differences}")
     }
 }
 
@@ -243,138 +245,84 @@ fn report(names: &[u8], tally: &[usize; COUNTED]) {
 
 // Whether two floats have the same bits: they are equal, and zeros of one sign. No NaN is compared.
 fn same_bits(a: f64, b: f64) -> bool {
-    (a == b) & (1.0 / a == 1.0 / b)
+    a == b && 1.0 / a == 1.0 / b
 }
 
-// Whether two listings wrote the same.
-fn same_written(
-    choices: &[usize; CELLS],
-    whole_choices: &[usize; CELLS],
-    utilities: &[f64; CELLS],
-    whole_utilities: &[f64; CELLS],
-) -> bool {
-    let mut same = true;
-    let mut i = 0;
-    while i < CELLS {
-        same = same
-            & (choices[i] == whole_choices[i])
-            & same_bits(utilities[i], whole_utilities[i]);
-        i += 1;
-    }
-    same
-}
-
-// A refusal as a number: its own, counted down from the largest.
-fn refusal(number: u32) -> usize {
-    std::num::wrapping_sub_usize(usize::MAX, number as usize)
-}
-
-// What a call told as one number.
-fn told(r: UsizeResult) -> usize {
-    match r {
-        UsizeResult::Ok(n) => n,
-        UsizeResult::Err(e) => refusal(e.number()),
-    }
-}
-
-// What a listing told; a refusal is both its numbers.
-fn told_listing(r: ListingResult) -> Listed {
-    match r {
-        ListingResult::Ok(listed) => listed,
-        ListingResult::Err(e) => Listed {
-            total: refusal(e.number()),
-            written: refusal(e.number()),
-        },
-    }
+// What a listing told, as numbers that can be compared.
+fn told(r: Result<Listed, NormalFormError>) -> Result<(usize, usize), NormalFormError> {
+    r.map(|listed| (listed.total, listed.written))
 }
 
 // How many equilibria the survivors' listing tells, into outputs of one element.
-fn short_total(counts: &[usize], payoffs: &[f64], left: Survivors) -> usize {
+fn short_total(
+    counts: &[usize],
+    payoffs: &[f64],
+    left: Survivors,
+) -> Result<usize, NormalFormError> {
     let mut choices = [FILLING; 1];
     let mut utilities = [FLOAT_FILLING; 1];
-    let listed = told_listing(survivor_calls::surviving_equilibria(
+    let listed = survivor_calls::surviving_equilibria(
         counts,
         payoffs,
         left,
         &mut choices,
         &mut utilities,
-    ));
-    listed.total
+    )?;
+    Ok(listed.total)
 }
 
 // Whether both listings told and wrote the same, and told the same total into short outputs. Counts
 // the equilibria.
-fn listings(
+fn same_listings(
     counts: &[usize],
     payoffs: &[f64],
     left: Survivors,
-    tally: &mut [usize; COUNTED],
+    equilibria: &mut usize,
 ) -> bool {
     let mut choices = [FILLING; CELLS];
     let mut utilities = [FLOAT_FILLING; CELLS];
     let mut whole_choices = [FILLING; CELLS];
     let mut whole_utilities = [FLOAT_FILLING; CELLS];
-    let surviving = told_listing(survivor_calls::surviving_equilibria(
+    let surviving = told(survivor_calls::surviving_equilibria(
         counts,
         payoffs,
         left,
         &mut choices,
         &mut utilities,
     ));
-    let whole = told_listing(pure_nash::equilibria(
+    let whole = told(pure_nash::equilibria(
         counts,
         payoffs,
         &mut whole_choices,
         &mut whole_utilities,
     ));
-    add(tally, EQUILIBRIA, whole.total);
-    (surviving.total == whole.total)
-        & (surviving.written == whole.written)
-        & (short_total(counts, payoffs, left) == whole.total)
-        & same_written(&choices, &whole_choices, &utilities, &whole_utilities)
+    let total = whole.map(|numbers| numbers.0);
+    add(equilibria, total.unwrap_or(0));
+    surviving == whole
+        && short_total(counts, payoffs, left) == total
+        && choices == whole_choices
+        && utilities
+            .iter()
+            .zip(whole_utilities.iter())
+            .all(|(a, b)| same_bits(*a, *b))
 }
 
-// Of a table, survivors and other survivors: the strategies; the survivors' marks, and the players
-// that have a struck strategy; and whether both survivors are the same.
-#[derive(Clone, Copy)]
-struct Found {
-    strategies: usize,
-    marks: usize,
-    players: usize,
-    same: bool,
+fn same_survivors(a: Survivors, b: Survivors) -> bool {
+    a.players == b.players && a.counts == b.counts && a.marks == b.marks
 }
 
-fn is_strategy(counts: &[usize], place: usize) -> bool {
-    let player = place / MAX_STRATEGIES;
-    if counts.len() <= player {
-        return false;
-    }
-    place % MAX_STRATEGIES < counts[player]
+// How many strategies survive.
+fn mark_count(left: Survivors) -> usize {
+    left.marks.iter().filter(|marked| **marked).count()
 }
 
-fn survey(counts: &[usize], a: Survivors, b: Survivors) -> Found {
-    let mut found = Found {
-        strategies: 0,
-        marks: 0,
-        players: 0,
-        same: a.players == b.players,
-    };
-    let mut last = MAX_PLAYERS;
-    let mut i = 0;
-    while i < MAX_MARKS {
-        let player = i / MAX_STRATEGIES;
-        let marked = a.marks[i];
-        found.same = found.same & (marked == b.marks[i]) & (a.counts[player] == b.counts[player]);
-        found.marks = std::num::wrapping_add_usize(found.marks, marked as usize);
-        let is = is_strategy(counts, i);
-        found.strategies = std::num::wrapping_add_usize(found.strategies, is as usize);
-        if is & !marked & (player != last) {
-            last = player;
-            found.players = one_more(found.players);
-        }
-        i += 1;
-    }
-    found
+// How many players have a struck strategy.
+fn struck_players(counts: &[usize], left: Survivors) -> usize {
+    left.marks
+        .chunks_exact(MAX_STRATEGIES)
+        .zip(counts.iter())
+        .filter(|(marks, count)| marks.iter().take(**count).any(|marked| !*marked))
+        .count()
 }
 
 // ---- an order
@@ -387,8 +335,7 @@ struct Progress {
     x: u64,
     player: usize,
     strategy: usize,
-    code: u32,
-    dominator: usize,
+    answer: Result<usize, NormalFormError>,
     accepted: usize,
     left: Survivors,
     place: usize,
@@ -397,127 +344,119 @@ struct Progress {
 }
 
 // An order before its first strike.
-fn started(counts: &[usize], payoffs: &[f64], x: u64, places: usize) -> Progress {
-    let made = survivors::fresh(counts, payoffs);
-    let fresh = made.survivors;
+fn started(counts: &[usize], payoffs: &[f64], x: u64) -> Progress {
     Progress {
-        x: x,
+        x,
         player: 0,
         strategy: 0,
-        code: 0,
-        dominator: 0,
+        answer: Ok(0),
         accepted: 0,
-        left: fresh,
-        place: below(x, places),
+        left: survivors::fresh(counts, payoffs).survivors,
+        place: below(x, WIDTH.wrapping_mul(counts.len())),
         quiet: 0,
         good: true,
     }
 }
 
-// The progress with the next strike chosen: that of a place of the sweep, which goes on by `pace`
-// places, or a drawn one. Often there is no such player or no such strategy, and sometimes either
-// number is a large one.
-fn chosen(
-    before: Progress,
-    players: usize,
-    places: usize,
-    pace: usize,
-    is_swept: bool,
-) -> Progress {
-    let mut p = before;
-    let x = next(p.x);
-    p.x = x;
-    if is_swept {
-        p.player = p.place / WIDTH;
-        p.strategy = p.place % WIDTH;
-        p.place = modulo(std::num::wrapping_add_usize(p.place, pace), places);
-        p.quiet = one_more(p.quiet);
-        return p;
+impl Progress {
+    // Chooses the next strike of the sweep, which goes on by `pace` places.
+    fn sweep(&mut self, places: usize, pace: usize) {
+        self.x = next(self.x);
+        self.player = self.place / WIDTH;
+        self.strategy = self.place % WIDTH;
+        self.place = modulo(self.place.wrapping_add(pace), places);
+        self.quiet = self.quiet.saturating_add(1);
     }
-    p.player = if x % 32 == 0 {
-        x as usize
-    } else {
-        below(x, one_more(players))
-    };
-    p.strategy = if x % 32 == 1 {
-        x as usize
-    } else {
-        below(next(x), SPREAD)
-    };
-    p
-}
 
-// The progress with that strike made and counted and, where it was accepted, the listings compared.
-fn struck(
-    counts: &[usize],
-    payoffs: &[f64],
-    before: Progress,
-    tally: &mut [usize; COUNTED],
-) -> Progress {
-    let mut p = before;
-    let left = p.left;
-    let made = survivor_calls::strike(counts, payoffs, left, p.player, p.strategy);
-    let handed_back = made.survivors;
-    p.left = handed_back;
-    let answer = made.answer;
-    match answer {
-        UsizeResult::Ok(t) => {
-            p.code = 0;
-            p.dominator = t;
-            p.accepted = one_more(p.accepted);
-            p.quiet = 0;
-            p.good = p.good & listings(counts, payoffs, handed_back, tally);
+    // Draws the next strike. Often there is no such player or no such strategy, and sometimes either
+    // number is a large one.
+    fn draw(&mut self, players: usize) {
+        let x = next(self.x);
+        self.x = x;
+        self.player = if x % 32 == 0 {
+            x as usize
+        } else {
+            below(x, players.wrapping_add(1))
+        };
+        self.strategy = if x % 32 == 1 {
+            x as usize
+        } else {
+            below(next(x), SPREAD)
+        };
+    }
+
+    // Makes the strike that was chosen, counts it and, where it was accepted, compares the listings.
+    fn strike(&mut self, counts: &[usize], payoffs: &[f64], tally: &mut Tally) {
+        let made = survivor_calls::strike(counts, payoffs, self.left, self.player, self.strategy);
+        self.left = made.survivors;
+        self.answer = made.answer;
+        if made.answer.is_ok() {
+            add(&mut self.accepted, 1);
+            self.quiet = 0;
+            let same = same_listings(counts, payoffs, self.left, &mut tally.equilibria);
+            self.good = self.good && same;
         }
-        UsizeResult::Err(e) => {
-            p.code = e.number();
-            p.dominator = 0;
+        tally.add_answer(made.answer);
+    }
+}
+
+// The strikes of an order, each with its answer as `strikes` writes it: 0 or the refusal, and the
+// dominator or 0.
+#[derive(Drop)]
+struct Strikes {
+    players: Vec<usize>,
+    strategies: Vec<usize>,
+    answers: Vec<u32>,
+    dominators: Vec<usize>,
+}
+
+impl Strikes {
+    fn new(alloc: Global) -> Strikes {
+        Strikes {
+            players: Vec::new(alloc),
+            strategies: Vec::new(alloc),
+            answers: Vec::new(alloc),
+            dominators: Vec::new(alloc),
         }
     }
-    add(tally, place_of(p.code), 1);
-    add(tally, DOMINATORS, p.dominator);
-    p
-}
 
-// Whether the answers are the same. Past the list both pairs of outputs hold zeros.
-fn same_answers(
-    codes: &[u32; CALLS],
-    answers: &[u32; CALLS],
-    others: &[usize; CALLS],
-    dominators: &[usize; CALLS],
-) -> bool {
-    let mut same = true;
-    let mut i = 0;
-    while i < CALLS {
-        same = same & (codes[i] == answers[i]) & (others[i] == dominators[i]);
-        i += 1;
+    fn push(&mut self, p: &Progress) -> Result<(), AllocError> {
+        self.players.push(p.player)?;
+        self.strategies.push(p.strategy)?;
+        self.answers.push(match p.answer {
+            Ok(_) => 0,
+            Err(e) => e.number(),
+        })?;
+        self.dominators.push(p.answer.unwrap_or(0))?;
+        Ok(())
     }
-    same
-}
 
-// Whether `strikes` on a list does what the single strikes did.
-fn same_list(
-    counts: &[usize],
-    payoffs: &[f64],
-    players: &[usize],
-    strategies: &[usize],
-    answers: &[u32; CALLS],
-    dominators: &[usize; CALLS],
-    p: Progress,
-) -> bool {
-    let mut codes = [0u32; CALLS];
-    let mut others = [0usize; CALLS];
-    let made = strike_lists::strikes(
-        counts,
-        payoffs,
-        players,
-        strategies,
-        &mut codes,
-        &mut others,
-    );
-    let answer = made.answer;
-    let left = made.survivors;
-    let found = survey(counts, left, p.left);
-    (told(answer) == p.accepted) & found.same & same_answers(&codes, answers, &others, dominators)
+    // Whether `strikes` on the list does what the single strikes did, and writes nothing past it.
+    fn are_list(
+        &mut self,
+        counts: &[usize],
+        payoffs: &[f64],
+        p: &Progress,
+    ) -> Result<bool, AllocError> {
+        let mut answers = [0; CALLS];
+        let mut dominators = [0; CALLS];
+        let made = strike_lists::strikes(
+            counts,
+            payoffs,
+            &self.players,
+            &self.strategies,
+            &mut answers,
+            &mut dominators,
+        );
+        self.answers.resize(CALLS, 0)?;
+        self.dominators.resize(CALLS, 0)?;
+        Ok(
+            made.answer == Ok(p.accepted)
+                && same_survivors(made.survivors, p.left)
+                && self.answers.as_slice() == answers.as_slice()
+                && self.dominators.as_slice() == dominators.as_slice(),
+        )
+    }
 }
 
 // Strikes until the sweep has been through all of its places since the last accepted strike, and
@@ -525,132 +464,92 @@ fn same_list(
 fn one_order(
     counts: &[usize],
     payoffs: &[f64],
-    start: Progress,
-    places: usize,
+    x: u64,
     pace: usize,
-    tally: &mut [usize; COUNTED],
-) -> Progress {
-    let mut players = [0usize; CALLS];
-    let mut strategies = [0usize; CALLS];
-    let mut answers = [0u32; CALLS];
-    let mut dominators = [0usize; CALLS];
-    let mut p = start;
-    let mut i = 0;
-    while i < CALLS {
+    tally: &mut Tally,
+    alloc: Global,
+) -> Result<Progress, AllocError> {
+    let places = WIDTH.wrapping_mul(counts.len());
+    let mut p = started(counts, payoffs, x);
+    let mut strikes = Strikes::new(alloc);
+    for i in 0..CALLS {
         if places <= p.quiet {
             break;
         }
-        p = struck(
-            counts,
-            payoffs,
-            chosen(p, counts.len(), places, pace, i % 2 == 1),
-            tally,
-        );
-        players[i] = p.player;
-        strategies[i] = p.strategy;
-        answers[i] = p.code;
-        dominators[i] = p.dominator;
-        i += 1;
+        if i % 2 == 1 {
+            p.sweep(places, pace);
+        } else {
+            p.draw(counts.len());
+        }
+        p.strike(counts, payoffs, tally);
+        strikes.push(&p)?;
     }
-    let same = same_list(
-        counts,
-        payoffs,
-        &players[0..i],
-        &strategies[0..i],
-        &answers,
-        &dominators,
-        p,
-    );
-    p.good = p.good & same & (places <= p.quiet);
-    p
+    let same = strikes.are_list(counts, payoffs, &p)?;
+    p.good = p.good && same && places <= p.quiet;
+    Ok(p)
 }
 
 // ---- the orders of a table
 
-// Counts an order that has been run, of a table whose first order left `base`.
-fn judge(
-    table: usize,
+// Whether an order has come out right, of a table whose first order left `base`.
+fn is_right(
     counts: &[usize],
     payoffs: &[f64],
     base: Survivors,
     p: Progress,
-    tally: &mut [usize; COUNTED],
-) {
-    let left = p.left;
-    let found = survey(counts, left, base);
-    let summed = std::num::wrapping_add_usize(p.accepted, found.marks) == found.strategies;
-    let listed = listings(counts, payoffs, left, tally);
-    add(tally, EACH_ORDER, 1);
-    if !(p.good & found.same & summed & listed) {
-        add(tally, DIFFERENCES, 1);
-        text(b"table");
-        number(table);
-        text(b" differs\n");
-    }
+    tally: &mut Tally,
+) -> bool {
+    let strategies = counts
+        .iter()
+        .fold(0usize, |sum, count| sum.saturating_add(*count));
+    let same = same_listings(counts, payoffs, p.left, &mut tally.equilibria);
+    p.good
+        && same
+        && same_survivors(p.left, base)
+        && p.accepted.saturating_add(mark_count(p.left)) == strategies
 }
 
 // Counts a table, whose first order left `base`.
-fn count_table(counts: &[usize], base: Survivors, tally: &mut [usize; COUNTED]) {
-    let found = survey(counts, base, base);
-    add(tally, EACH_TABLE, 1);
-    if 0 < found.players {
-        add(tally, STRUCK, 1);
+fn count_table(counts: &[usize], base: Survivors, tally: &mut Tally) {
+    let players = struck_players(counts, base);
+    add(&mut tally.tables, 1);
+    if players > 0 {
+        add(&mut tally.struck, 1);
     }
-    if 1 < found.players {
-        add(tally, SEVERAL, 1);
+    if players > 1 {
+        add(&mut tally.several, 1);
     }
 }
 
-// Runs all orders of a table, whose sweeps have so many places. The number that the generator came
-// to.
-fn of_table(
-    table: usize,
-    counts: &[usize],
-    payoffs: &[f64],
-    seed: u64,
-    places: usize,
-    tally: &mut [usize; COUNTED],
-) -> u64 {
-    let made = survivors::fresh(counts, payoffs);
-    let mut base = made.survivors;
-    let mut x = seed;
-    let mut order = 0;
-    while order < ORDERS {
-        let start = started(counts, payoffs, x, places);
-        let p = one_order(counts, payoffs, start, places, PACES[order], tally);
-        if order == 0 {
-            base = p.left;
-            count_table(counts, base, tally);
+// Draws a table and runs its orders. The number that the generator came to.
+fn run_table(table: usize, x: u64, tally: &mut Tally, alloc: Global) -> Result<u64, AllocError> {
+    let drawn = drawn_table(table, x, alloc)?;
+    let mut x = drawn.x;
+    let mut base = None;
+    for pace in PACES {
+        let p = one_order(&drawn.counts, &drawn.payoffs, x, pace, tally, alloc)?;
+        let base = match base {
+            Some(base) => base,
+            None => {
+                count_table(&drawn.counts, p.left, tally);
+                base = Some(p.left);
+                p.left
+            }
+        };
+        add(&mut tally.orders, 1);
+        if !is_right(&drawn.counts, &drawn.payoffs, base, p, tally) {
+            tally.differing.push(table)?;
         }
-        judge(table, counts, payoffs, base, p, tally);
         x = p.x;
-        order += 1;
     }
-    x
+    Ok(x)
 }
 
-// Draws a table and runs its orders. The numbers of players and the kinds take turns.
-fn drawn_table(table: usize, x: u64, tally: &mut [usize; COUNTED]) -> u64 {
-    let players = table % PLAYERS + 1;
-    let all = drawn_counts(players, x);
-    let counts = &all[0..players];
-    let mut cells = [0.0; CELLS];
-    let kind = table / PLAYERS % 4;
-    let drawn = draw_payoffs(counts, kind, below(x, WIDTH), next(x), &mut cells);
-    let payoffs = first(&cells, drawn.cells);
-    of_table(table, counts, payoffs, drawn.x, WIDTH * players, tally)
-}
-
-fn main() {
-    let mut tally = [0; COUNTED];
+fn main(rt: HostRuntime) -> io::Result<()> {
+    let mut tally = Tally::new(rt.alloc());
     let mut x = SEED;
-    let mut table = 0;
-    while table < TABLES {
-        x = drawn_table(table, x, &mut tally);
-        table += 1;
+    for table in 0..TABLES {
+        x = run_table(table, x, &mut tally, rt.alloc())?;
     }
-    report(
-        b"tables;orders;accepted;their dominators, summed;refused 8,;refused 14,;refused 15,;equilibria compared;tables in which something was struck;of several players;differences;",
-        &tally,
-    );
+    tally.print(&rt)
 }

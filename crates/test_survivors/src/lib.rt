@@ -1,98 +1,92 @@
-// Survivors, and the answers beside them, as the test programs print them; and survivors of
-// numbers.
+// Survivors, and the answers beside them, as the test programs print them; and survivors as an
+// argument of a line.
 #![tactic(auto)]
 
-ghost use Rattle.std.specs.Prelude.{◌≡◌};
+ghost use Rattle.std.specs.Prelude.{OnOk};
+ghost use Rattle.std.specs.String.{string_bytes};
+ghost use Rattle.test_print.specs.Told.{IsAdded};
 
+use std::alloc::AllocError;
 use survivor_calls::StrikeResult;
 use survivors::{FreshResult, Survivors};
-use table::{MAX_MARKS, MAX_PLAYERS, MAX_STRATEGIES};
-use test_print::{number, numbers, text, told_unit, told_usize};
+use table::{MAX_MARKS, MAX_STRATEGIES};
+use test_lines::{Arguments, ReadError};
+use test_print::{Tell, tell_all};
 
 // Each player that has a mark, with its marked strategies.
-fn told_marks(marks: &[bool; MAX_MARKS]) {
-    let mut player = MAX_PLAYERS;
-    let mut i = 0;
-    while i < MAX_MARKS {
-        if marks[i] {
-            if i / MAX_STRATEGIES != player {
-                player = i / MAX_STRATEGIES;
-                text(b",");
-                number(player);
-                text(b"'s");
+fn tell_marks(marks: &[bool; MAX_MARKS], out: &mut String) -> Result<(), AllocError>
+    ensures added { OnOk result (IsAdded (string_bytes out.old) (string_bytes out.new)) }
+{
+    for (player, strategies) in marks.chunks_exact(MAX_STRATEGIES).enumerate() {
+        if strategies.contains(&true) {
+            write!(out, ", {player}'s")?;
+            for (strategy, is_marked) in strategies.iter().enumerate() {
+                if *is_marked {
+                    strategy.tell(out)?;
+                }
             }
-            number(i % MAX_STRATEGIES);
         }
-        i += 1;
     }
+    Ok(())
 }
 
 // Survivors: P, the eight counts, and the marks.
-pub fn told_record(left: Survivors) {
-    let counts = left.counts;
-    let marks = left.marks;
-    text(b" P");
-    number(left.players);
-    text(b", counts");
-    numbers(&counts);
-    told_marks(&marks);
+pub fn tell_record(left: Survivors, out: &mut String) -> Result<(), AllocError>
+    ensures added { OnOk result (IsAdded (string_bytes out.old) (string_bytes out.new)) }
+{
+    out.push_str(" P")?;
+    left.players.tell(out)?;
+    out.push_str(", counts")?;
+    tell_all(&left.counts, out)?;
+    tell_marks(&left.marks, out)
 }
 
 // The same after what a call told.
-pub fn told_survivors(left: Survivors) {
-    text(b",");
-    told_record(left);
+pub fn tell_survivors(left: Survivors, out: &mut String) -> Result<(), AllocError>
+    ensures added { OnOk result (IsAdded (string_bytes out.old) (string_bytes out.new)) }
+{
+    out.push_str(",")?;
+    tell_record(left, out)
 }
 
 // Whether the table was accepted, and its fresh survivors.
-pub fn told_fresh(made: FreshResult) {
-    let answer = made.answer;
-    let left = made.survivors;
-    told_unit(answer);
-    told_survivors(left);
+pub fn tell_fresh(made: FreshResult, out: &mut String) -> Result<(), AllocError>
+    ensures added { OnOk result (IsAdded (string_bytes out.old) (string_bytes out.new)) }
+{
+    made.answer.tell(out)?;
+    tell_survivors(made.survivors, out)
 }
 
 // The answer to a strike, and the survivors that it hands back.
-pub fn told_strike(struck: StrikeResult) {
-    let answer = struck.answer;
-    let left = struck.survivors;
-    told_usize(answer);
-    told_survivors(left);
-}
-
-// Whether the number at a place is not 0.
-fn is_marked(marks: &[usize], at: usize) -> bool {
-    if at < marks.len() {
-        marks[at] != 0
-    } else {
-        false
-    }
-}
-
-// The survivors with P, these counts and these marks, each of which is a number that is not 0.
-pub fn survivors_of(players: usize, counts: [usize; MAX_PLAYERS], list: &[usize]) -> Survivors
-    ensures { (result.players ≡ players) × (result.counts ≡ counts) }
+pub fn tell_strike(struck: StrikeResult, out: &mut String) -> Result<(), AllocError>
+    ensures added { OnOk result (IsAdded (string_bytes out.old) (string_bytes out.new)) }
 {
+    struck.answer.tell(out)?;
+    tell_survivors(struck.survivors, out)
+}
+
+// A mark for each place, of numbers that are each 0 or 1.
+fn read_marks(arguments: &mut Arguments<'_>) -> Result<[bool; MAX_MARKS], ReadError> {
+    let list = arguments.numbers()?;
+    if list.len() != MAX_MARKS {
+        return Err(ReadError::Unreadable);
+    }
     let mut marks = [false; MAX_MARKS];
-    let mut i = 0;
-    while i < MAX_MARKS {
-        marks[i] = is_marked(list, i);
-        i += 1;
+    for (mark, n) in marks.iter_mut().zip(list.iter()) {
+        *mark = match n {
+            0 => false,
+            1 => true,
+            _ => return Err(ReadError::Unreadable),
+        };
     }
-    Survivors {
-        players,
-        counts,
-        marks,
-    }
+    Ok(marks)
 }
 
-// Those of no players, with counts 0 and no mark.
-pub fn none() -> Survivors
-    ensures { result.players ≡ 0 }
-{
-    Survivors {
-        players: 0,
-        counts: [0; MAX_PLAYERS],
-        marks: [false; MAX_MARKS],
-    }
+// Survivors: P, the eight counts and the marks, whatever they are.
+pub fn read_survivors(arguments: &mut Arguments<'_>) -> Result<Survivors, ReadError> {
+    Ok(Survivors {
+        players: arguments.number()?,
+        counts: arguments.eight()?,
+        marks: read_marks(arguments)?,
+    })
 }

@@ -1,235 +1,205 @@
-// The cases of utilities, tables, profiles and solvers: a function to each call of docs/TESTING.md.
+// The cases of utilities, tables, profiles and solvers: a function for each call of docs/TESTING.md
+// that tells more than an answer, and `tell`, which makes each call.
 #![tactic(auto)]
 
-use table::{SpaceResult, StrategySpace};
-use test_lines::{
-    Case, ELEMENTS, LINE, eight, line_at, name, next, read_case, read_floats, read_numbers, start,
-};
-use test_print::{
-    answer, bits, float, floats, number, numbers, output, output_floats, refused, text, told_bool,
-    told_listing, told_unit, told_usize,
-};
-use utility::{Utility, UtilityResult};
+use refusal::NormalFormError;
+use std::alloc::AllocError;
+use std::io;
+use table::{MAX_PLAYERS, StrategySpace};
+use test_lines::{Arguments, ELEMENTS, ReadError, run_lines};
+use test_print::{Tell, tell_all, tell_bits, tell_output};
+use utility::Utility;
 
 // ---- utilities
 
-fn utility(x: f64) {
+fn tell_utility(x: f64, out: &mut String) -> Result<(), AllocError> {
     match Utility::new(x) {
-        UtilityResult::Ok(u) => {
-            text(b" ok");
-            bits(u.value());
+        Ok(u) => {
+            out.push_str(" ok")?;
+            tell_bits(u.value(), out)
         }
-        UtilityResult::Err(e) => refused(e.number()),
+        Err(e) => e.tell(out),
     }
 }
 
-fn told_order(a: Utility, b: Utility) {
-    text(b" exceeds");
-    answer(a.exceeds(b));
-    text(b", equals");
-    answer(a.equals(b));
-    text(b", is exceeded");
-    answer(b.exceeds(a));
+fn tell_order(a: Utility, b: Utility, out: &mut String) -> Result<(), AllocError> {
+    out.push_str(" exceeds")?;
+    a.exceeds(b).tell(out)?;
+    out.push_str(", equals")?;
+    a.equals(b).tell(out)?;
+    out.push_str(", is exceeded")?;
+    b.exceeds(a).tell(out)
 }
 
-fn compare(a: f64, b: f64) {
-    match Utility::new(a) {
-        UtilityResult::Ok(u) => match Utility::new(b) {
-            UtilityResult::Ok(v) => told_order(u, v),
-            UtilityResult::Err(e) => refused(e.number()),
-        },
-        UtilityResult::Err(e) => refused(e.number()),
+fn tell_comparison(a: f64, b: f64, out: &mut String) -> Result<(), AllocError> {
+    match (Utility::new(a), Utility::new(b)) {
+        (Ok(a), Ok(b)) => tell_order(a, b, out),
+        (Err(e), _) | (_, Err(e)) => e.tell(out),
     }
 }
 
 // ---- tables and profiles
 
-fn told_space(r: SpaceResult) {
-    let answer = r.answer;
-    told_unit(answer);
-    let space = r.space;
-    text(b", players");
-    number(space.players);
-    let counts = space.counts;
-    text(b", counts");
-    numbers(&counts);
+// Whether there is a space, and its fields, which are told as 0 where there is none.
+fn tell_space(
+    r: Result<StrategySpace, NormalFormError>,
+    out: &mut String,
+) -> Result<(), AllocError> {
+    r.map(|_| ()).tell(out)?;
+    let space = r.unwrap_or(StrategySpace {
+        players: 0,
+        counts: [0; MAX_PLAYERS],
+    });
+    out.push_str(", players")?;
+    space.players.tell(out)?;
+    out.push_str(", counts")?;
+    tell_all(&space.counts, out)
 }
 
-fn payoff(counts: &[usize], payoffs: &[f64], profile: &[usize], player: usize) {
-    match table::payoff(counts, payoffs, profile, player) {
-        UtilityResult::Ok(u) => {
-            text(b" ok");
-            float(u.value());
-        }
-        UtilityResult::Err(e) => refused(e.number()),
-    }
+fn tell_part(part: &[f64], out: &mut String) -> Result<(), AllocError> {
+    out.push_str(" of")?;
+    part.len().tell(out)?;
+    out.push_str(":")?;
+    tell_all(part, out)
 }
 
-fn profile_payoffs(counts: &[usize], payoffs: &[f64], profile: &[usize]) {
-    let part = table::profile_payoffs(counts, payoffs, profile);
-    text(b" of");
-    number(part.len());
-    text(b":");
-    floats(part);
-}
-
-fn advance_profile(counts: &[usize], profile: &[usize]) {
-    let next = profile_step::advance_profile(counts, eight(profile));
-    if next.more {
-        text(b" more,");
-    } else {
-        text(b" no more,");
-    }
-    let choices = next.profile;
-    numbers(&choices);
-}
-
-// ---- solvers
-
-fn best_responses(
+fn tell_advance(
     counts: &[usize],
-    payoffs: &[f64],
-    player: usize,
-    opponents: &[usize],
-    strategies: &mut [usize],
-    utilities: &mut [f64],
-) {
-    told_usize(best_response::best_responses(
-        counts, payoffs, player, opponents, strategies, utilities,
-    ));
-    output(strategies);
-    output_floats(utilities);
+    profile: [usize; MAX_PLAYERS],
+    out: &mut String,
+) -> Result<(), AllocError> {
+    let next = profile_step::advance_profile(counts, profile);
+    out.push_str(if next.more { " more," } else { " no more," })?;
+    tell_all(&next.profile, out)
 }
 
-fn strictly_dominated_strategies(
-    counts: &[usize],
-    payoffs: &[f64],
-    player: usize,
-    strategies: &mut [usize],
-    dominators: &mut [usize],
-) {
-    told_usize(strict_dominance::strictly_dominated_strategies(
-        counts, payoffs, player, strategies, dominators,
-    ));
-    output(strategies);
-    output(dominators);
-}
+// ---- calls
 
-fn equilibria(counts: &[usize], payoffs: &[f64], choices: &mut [usize], utilities: &mut [f64]) {
-    told_listing(pure_nash::equilibria(counts, payoffs, choices, utilities));
-    output(choices);
-    output_floats(utilities);
-}
-
-// ---- lines
-
-// Makes the call of a case, over the buffers' lists.
-fn make(r: Case, a: &mut [usize], b: &mut [usize], c: &mut [usize], x: &mut [f64], y: &mut [f64]) {
-    let call = r.call;
+fn tell(call: &str, arguments: &mut Arguments<'_>, out: &mut String) -> Result<(), ReadError> {
     match call {
-        0 => utility(r.real),
-        1 => answer(utility::is_finite(r.real)),
-        2 => answer(utility::all_finite(x)),
-        3 => compare(r.real, r.other),
-        4 => told_usize(table::profile_count(a)),
-        5 => told_space(StrategySpace::from_counts(a)),
-        6 => told_usize(table::table_profile_count(a, x)),
-        7 => told_space(table::payoff_matrix(a, x)),
-        8 => told_usize(table::offset(a, x, b)),
-        9 => payoff(a, x, b, r.first),
-        10 => profile_payoffs(a, x, b),
-        11 => advance_profile(a, b),
-        12 => best_responses(a, x, r.first, b, c, y),
-        13 => strictly_dominated_strategies(a, x, r.first, b, c),
-        14 => told_bool(pure_nash::is_equilibrium(a, x, b)),
-        15 => equilibria(a, x, c, y),
-        _ => text(b" cannot be read"),
-    }
-}
-
-// The same, over the lists of a line, which are read into the buffers.
-fn make_of(
-    line: &[u8],
-    r: Case,
-    words: &mut [usize],
-    a: &mut [usize],
-    b: &mut [usize],
-    c: &mut [usize],
-    x: &mut [f64],
-    y: &mut [f64],
-) {
-    let a = read_numbers(line, r.a, a);
-    let b = read_numbers(line, r.b, b);
-    let c = read_numbers(line, r.c, c);
-    let x = read_floats(line, r.x, words, x);
-    let y = read_floats(line, r.y, words, y);
-    make(r, a, b, c, x, y);
-}
-
-// A line that is no remark: its name, and what its call tells.
-fn run(
-    line: &[u8],
-    remark: bool,
-    words: &mut [usize],
-    a: &mut [usize],
-    b: &mut [usize],
-    c: &mut [usize],
-    x: &mut [f64],
-    y: &mut [f64],
-) {
-    if remark {
-        return;
-    }
-    text(name(line));
-    text(b":");
-    let r = read_case(
-        line,
-        b"utility r4, is_finite r4, all_finite fx, compare r4r5, profile_count la, from_counts la, table_profile_count lafx, payoff_matrix lafx, offset lafxlb, payoff lafxlbn1, profile_payoffs lafxlb, advance_profile laeb, best_responses lafxn1lblcfy, strictly_dominated_strategies lafxn1lblc, is_equilibrium lafxlb, equilibria lafxlcfy",
-        words,
-    );
-    make_of(line, r, words, a, b, c, x, y);
-    text(b"\n");
-}
-
-// Every line. A proved loop has to end, so it counts its turns down, from a number that no run uses
-// up.
-fn run_all(
-    buffer: &mut [u8],
-    words: &mut [usize],
-    a: &mut [usize],
-    b: &mut [usize],
-    c: &mut [usize],
-    x: &mut [f64],
-    y: &mut [f64],
-) {
-    let mut input = start();
-    let mut turns = u64::MAX;
-    while 0 < turns {
-        turns -= 1;
-        input = next(input, buffer);
-        if input.ended {
-            return;
+        "utility" => {
+            let x = arguments.float()?;
+            arguments.end()?;
+            tell_utility(x, out)?;
         }
-        let line = line_at(buffer, input);
-        run(line, input.remark, words, a, b, c, x, y);
+        "is_finite" => {
+            let x = arguments.float()?;
+            arguments.end()?;
+            utility::is_finite(x).tell(out)?;
+        }
+        "all_finite" => {
+            let list = arguments.floats()?;
+            arguments.end()?;
+            utility::all_finite(&list).tell(out)?;
+        }
+        "compare" => {
+            let a = arguments.float()?;
+            let b = arguments.float()?;
+            arguments.end()?;
+            tell_comparison(a, b, out)?;
+        }
+        "profile_count" => {
+            let counts = arguments.numbers()?;
+            arguments.end()?;
+            table::profile_count(&counts).tell(out)?;
+        }
+        "from_counts" => {
+            let counts = arguments.numbers()?;
+            arguments.end()?;
+            tell_space(StrategySpace::from_counts(&counts), out)?;
+        }
+        "table_profile_count" => {
+            let (counts, payoffs) = arguments.table()?;
+            arguments.end()?;
+            table::table_profile_count(&counts, &payoffs).tell(out)?;
+        }
+        "payoff_matrix" => {
+            let (counts, payoffs) = arguments.table()?;
+            arguments.end()?;
+            tell_space(table::payoff_matrix(&counts, &payoffs), out)?;
+        }
+        "offset" => {
+            let (counts, payoffs) = arguments.table()?;
+            let profile = arguments.numbers()?;
+            arguments.end()?;
+            table::offset(&counts, &payoffs, &profile).tell(out)?;
+        }
+        "payoff" => {
+            let (counts, payoffs) = arguments.table()?;
+            let profile = arguments.numbers()?;
+            let player = arguments.number()?;
+            arguments.end()?;
+            table::payoff(&counts, &payoffs, &profile, player)
+                .map(|u| u.value())
+                .tell(out)?;
+        }
+        "profile_payoffs" => {
+            let (counts, payoffs) = arguments.table()?;
+            let profile = arguments.numbers()?;
+            arguments.end()?;
+            tell_part(table::profile_payoffs(&counts, &payoffs, &profile), out)?;
+        }
+        "advance_profile" => {
+            let counts = arguments.numbers()?;
+            let profile = arguments.eight()?;
+            arguments.end()?;
+            tell_advance(&counts, profile, out)?;
+        }
+        "best_responses" => {
+            let (counts, payoffs) = arguments.table()?;
+            let player = arguments.number()?;
+            let opponents = arguments.numbers()?;
+            let mut strategies = arguments.numbers()?;
+            let mut utilities = arguments.floats()?;
+            arguments.end()?;
+            best_response::best_responses(
+                &counts,
+                &payoffs,
+                player,
+                &opponents,
+                &mut strategies,
+                &mut utilities,
+            )
+            .tell(out)?;
+            tell_output(&strategies, out)?;
+            tell_output(&utilities, out)?;
+        }
+        "strictly_dominated_strategies" => {
+            let (counts, payoffs) = arguments.table()?;
+            let player = arguments.number()?;
+            let mut strategies = arguments.numbers()?;
+            let mut dominators = arguments.numbers()?;
+            arguments.end()?;
+            strict_dominance::strictly_dominated_strategies(
+                &counts,
+                &payoffs,
+                player,
+                &mut strategies,
+                &mut dominators,
+            ).tell(out)?;
+            tell_output(&strategies, out)?;
+            tell_output(&dominators, out)?;
+        }
+        "is_equilibrium" => {
+            let (counts, payoffs) = arguments.table()?;
+            let profile = arguments.numbers()?;
+            arguments.end()?;
+            pure_nash::is_equilibrium(&counts, &payoffs, &profile).tell(out)?;
+        }
+        "equilibria" => {
+            let (counts, payoffs) = arguments.table()?;
+            let mut choices = arguments.numbers()?;
+            let mut utilities = arguments.floats()?;
+            arguments.end()?;
+            pure_nash::equilibria(&counts, &payoffs, &mut choices, &mut utilities).tell(out)?;
+            tell_output(&choices, out)?;
+            tell_output(&utilities, out)?;
+        }
+        _ => return Err(ReadError::Unreadable),
     }
+    Ok(())
 }
 
-fn main() {
-    let mut buffer = [0; LINE];
-    let mut words = [0; ELEMENTS];
-    let mut a = [0; ELEMENTS];
-    let mut b = [0; ELEMENTS];
-    let mut c = [0; ELEMENTS];
-    let mut x = [0.0; ELEMENTS];
-    let mut y = [0.0; ELEMENTS];
-    run_all(
-        &mut buffer,
-        &mut words,
-        &mut a,
-        &mut b,
-        &mut c,
-        &mut x,
-        &mut y,
-    );
+fn main(rt: HostRuntime) -> io::Result<()> {
+    run_lines(&rt, ELEMENTS, tell)
 }

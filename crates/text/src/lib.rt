@@ -1,5 +1,5 @@
-// Text in a lent buffer: words, numbers in decimal and hexadecimal digits, and lines. Each call puts its text at a place, as far as there is room,
-// and gives the place after it (`outputs`).
+// Text in a lent buffer: words, numbers in decimal and hexadecimal digits, and lines. Each call
+// puts its text at a place, as far as there is room, and gives the place after it (`outputs`).
 #![tactic(auto)]
 
 ghost use Rattle.std.specs.Prelude.{◌≡◌, ◌∷◌, map};
@@ -13,10 +13,8 @@ pub fn put(out: &mut [u8], at: usize, bytes: &[u8]) -> usize
     ensures out_after { out.new ≡ sets out.old at bytes.now }
 {
     let mut place = outputs::within(out.len(), at);
-    let mut i = 0;
-    while i < bytes.len() {
-        place = outputs::put_byte(out, place, bytes[i]);
-        i += 1;
+    for &byte in bytes {
+        place = outputs::put(out, place, byte);
     }
     place
 }
@@ -47,11 +45,9 @@ fn put_spaced(out: &mut [u8], at: usize, numbers: &[usize]) -> usize
     ensures out_after { out.new ≡ sets out.old at (spaced (map decimal numbers.now)) }
 {
     let mut place = outputs::within(out.len(), at);
-    let mut i = 0;
-    while i < numbers.len() {
-        place = outputs::put_byte(out, place, b' ');
-        place = put_decimal(out, place, numbers[i]);
-        i += 1;
+    for &n in numbers {
+        place = outputs::put(out, place, b' ');
+        place = put_decimal(out, place, n);
     }
     place
 }
@@ -61,12 +57,11 @@ pub fn put_numbers(out: &mut [u8], at: usize, numbers: &[usize]) -> usize
     ensures value { result ≡ past out.old at (joined (map decimal numbers.now)) }
     ensures out_after { out.new ≡ sets out.old at (joined (map decimal numbers.now)) }
 {
-    // of no numbers both texts are empty
-    if numbers.len() == 0 {
-        return put_spaced(out, at, numbers);
-    }
-    let place = put_decimal(out, at, numbers[0]);
-    put_spaced(out, place, &numbers[1..])
+    let Some((first, others)) = numbers.split_first() else {
+        return outputs::within(out.len(), at);
+    };
+    let place = put_decimal(out, at, *first);
+    put_spaced(out, place, others)
 }
 
 // Puts a line: a word, and numbers in decimal digits.
@@ -76,5 +71,5 @@ pub fn put_labelled(out: &mut [u8], at: usize, label: &[u8], numbers: &[usize]) 
 {
     let mut place = put(out, at, label);
     place = put_spaced(out, place, numbers);
-    outputs::put_byte(out, place, b'\n')
+    outputs::put(out, place, b'\n')
 }

@@ -2,3 +2,4 @@
 -- callers.
 pub mod Finite
 pub mod Made
+mod Pieces

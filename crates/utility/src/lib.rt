@@ -8,18 +8,11 @@ ghost use Rattle.utility.specs.Value.{value_of, told_utility, utility_answer};
 
 use refusal::NormalFormError;
 
-// A payoff that has passed the finite check, by a test or by a proof. The field is private, so that a raw float can't enter a comparison unchecked.
-// In C it is a double.
+// A payoff that has passed the finite check, by a test or by a proof. The field is private, so that
+// a raw float can't enter a comparison unchecked. In C it is a double.
 #[repr(C)]
 #[derive(Clone, Copy)]
 pub struct Utility(f64);
-
-// Rust's `Result<Utility, NormalFormError>`.
-#[derive(Clone, Copy)]
-pub enum UtilityResult {
-    Ok(Utility),
-    Err(NormalFormError),
-}
 
 // Whether a value is finite. x - x is 0 where x is finite, and a NaN where it is not.
 pub fn is_finite(x: f64) -> bool
@@ -30,17 +23,18 @@ pub fn is_finite(x: f64) -> bool
 
 impl Utility {
     // The utility of a finite value.
-    pub fn new(value: f64) -> UtilityResult
+    pub fn new(value: f64) -> Result<Utility, NormalFormError>
         ensures { told_utility result ≡ utility_answer value }
     {
         if is_finite(value) {
-            UtilityResult::Ok(Utility(value))
+            Ok(Utility(value))
         } else {
-            UtilityResult::Err(NormalFormError::NonFiniteUtility)
+            Err(NormalFormError::NonFiniteUtility)
         }
     }
 
-    // The utility of a value whose check is a proof: the caller proves that it is finite, and nothing is tested when it runs.
+    // The utility of a value whose check is a proof: the caller proves that it is finite, and
+    // nothing is tested when it runs.
     pub fn of_finite(value: f64) -> Utility
         requires { T (finite value) }
         ensures { value_of result ≡ value }
@@ -70,15 +64,14 @@ impl Utility {
     }
 }
 
-// Whether every value is finite. The loop has no exit inside, so that it is compiled to vector instructions.
+// Whether every value is finite. The loop has no exit inside, so that it is compiled to vector
+// instructions.
 fn run_finite(values: &[f64]) -> bool
     ensures { result ≡ all finite values.now }
 {
     let mut ok = true;
-    let mut i = 0;
-    while i < values.len() {
-        ok = ok & is_finite(values[i]);
-        i += 1;
+    for &value in values {
+        ok &= is_finite(value);
     }
     ok
 }
@@ -90,16 +83,5 @@ const RUN: usize = 1024;
 pub fn all_finite(values: &[f64]) -> bool
     ensures { result ≡ all finite values.now }
 {
-    let mut at = 0;
-    while at < values.len() {
-        let mut end = values.len();
-        if RUN < end - at {
-            end = at + RUN;
-        }
-        if !run_finite(&values[at..end]) {
-            return false;
-        }
-        at = end;
-    }
-    true
+    values.chunks(RUN).all(run_finite)
 }

@@ -1,10 +1,12 @@
-// The calls on a view's fields, the payoffs, P and eight counts, whatever they are: each is the plain call on the payoffs and the first P counts.
-// P over 8 gives 2 before any count is read.
+// The calls on a view's fields, the payoffs, P and eight counts, whatever they are: each is the
+// plain call on the payoffs and the first P counts. P over 8 gives 2 before any count is read; each
+// says so itself, since three of the six answer by a struct.
+// The fields are parameters one by one, since the view is declared above this crate.
 #![tactic(auto)]
 
 ghost use Rattle.std.specs.Prelude.{◌≡◌, length};
 ghost use Rattle.game.specs.Game.{strategy as named};
-ghost use Rattle.refusal.specs.Told.{told_bool, told_listing, told_unit, told_usize, unless, unless_refused};
+ghost use Rattle.refusal.specs.Told.{told, unless, unless_refused};
 ghost use Rattle.written_lists.specs.Outputs.{over, written};
 ghost use Rattle.payoff_tables.specs.Checks.{table_refusal};
 ghost use Rattle.equilibria.specs.Answers.{is_equilibrium_answer, equilibria_answer, equilibria_choices, equilibria_utilities};
@@ -14,11 +16,11 @@ ghost use Rattle.strikes.specs.Answers.{strike_answer, strike_leaves};
 ghost use Rattle.view_fields.specs.Counts.{first_counts};
 ghost use Rattle.response_list.specs.Responses.{no_records, records_answer, records_written};
 
-use refusal::{BoolResult, ListingResult, NormalFormError, UnitResult, UsizeResult};
+use refusal::{Listed, NormalFormError};
 use response_list::Found;
 use survivor_calls::StrikeResult;
 use survivors::{FreshResult, Survivors};
-use table::{MAX_PLAYERS, StrategySpace};
+use table::MAX_PLAYERS;
 
 // The best responses for a list of `room` records, as `response_list::find_responses` finds them.
 pub fn responses_of(
@@ -29,16 +31,12 @@ pub fn responses_of(
     opponents: &[usize],
     room: usize,
 ) -> Found
-    ensures answer_value { told_usize result.answer ≡ records_answer (first_counts players counts) payoffs.now player opponents.now room }
-    ensures number_value { result.number ≡ written (told_usize result.answer) }
+    ensures answer_value { told result.answer ≡ records_answer (first_counts players counts) payoffs.now player opponents.now room }
+    ensures number_value { result.number ≡ written (told result.answer) }
     ensures records_value { result.records ≡ over (records_written (first_counts players counts) payoffs.now player opponents.now room) no_records }
 {
     if MAX_PLAYERS < players {
-        return Found {
-            answer: UsizeResult::Err(NormalFormError::TooManyPlayers),
-            number: 0,
-            records: response_list::no_records(),
-        };
+        return Found::refused(NormalFormError::TooManyPlayers);
     }
     response_list::find_responses(&counts[..players], payoffs, player, opponents, room)
 }
@@ -49,11 +47,11 @@ pub fn is_equilibrium_of(
     players: usize,
     counts: [usize; MAX_PLAYERS],
     profile: &[usize],
-) -> BoolResult
-    ensures { told_bool result ≡ is_equilibrium_answer (first_counts players counts) payoffs.now profile.now }
+) -> Result<bool, NormalFormError>
+    ensures { told result ≡ is_equilibrium_answer (first_counts players counts) payoffs.now profile.now }
 {
     if MAX_PLAYERS < players {
-        return BoolResult::Err(NormalFormError::TooManyPlayers);
+        return Err(NormalFormError::TooManyPlayers);
     }
     pure_nash::is_equilibrium(&counts[..players], payoffs, profile)
 }
@@ -65,13 +63,13 @@ pub fn equilibria_of(
     counts: [usize; MAX_PLAYERS],
     choices: &mut [usize],
     utilities: &mut [f64],
-) -> ListingResult
-    ensures result_value { told_listing result ≡ equilibria_answer (first_counts players counts) payoffs.now (length choices.old) (length utilities.old) }
+) -> Result<Listed, NormalFormError>
+    ensures result_value { told result ≡ equilibria_answer (first_counts players counts) payoffs.now (length choices.old) (length utilities.old) }
     ensures choices_after { choices.new ≡ over (equilibria_choices (first_counts players counts) payoffs.now (length choices.old) (length utilities.old)) choices.old }
     ensures utilities_after { utilities.new ≡ over (equilibria_utilities (first_counts players counts) payoffs.now (length choices.old) (length utilities.old)) utilities.old }
 {
     if MAX_PLAYERS < players {
-        return ListingResult::Err(NormalFormError::TooManyPlayers);
+        return Err(NormalFormError::TooManyPlayers);
     }
     pure_nash::equilibria(&counts[..players], payoffs, choices, utilities)
 }
@@ -84,13 +82,13 @@ pub fn dominated_of(
     player: usize,
     dominated: &mut [usize],
     dominators: &mut [usize],
-) -> UsizeResult
-    ensures result_value { told_usize result ≡ dominated_answer (first_counts players counts) payoffs.now player (length dominated.old) (length dominators.old) }
+) -> Result<usize, NormalFormError>
+    ensures result_value { told result ≡ dominated_answer (first_counts players counts) payoffs.now player (length dominated.old) (length dominators.old) }
     ensures dominated_after { dominated.new ≡ over (strategies_of (dominated_written (first_counts players counts) payoffs.now player (length dominated.old) (length dominators.old))) dominated.old }
     ensures dominators_after { dominators.new ≡ over (dominators_of (dominated_written (first_counts players counts) payoffs.now player (length dominated.old) (length dominators.old))) dominators.old }
 {
     if MAX_PLAYERS < players {
-        return UsizeResult::Err(NormalFormError::TooManyPlayers);
+        return Err(NormalFormError::TooManyPlayers);
     }
     strict_dominance::strictly_dominated_strategies(
         &counts[..players],
@@ -103,17 +101,13 @@ pub fn dominated_of(
 
 // The fresh survivors, as `survivors::fresh` makes them.
 pub fn fresh_of(payoffs: &[f64], players: usize, counts: [usize; MAX_PLAYERS]) -> FreshResult
-    ensures answer_value { told_unit result.answer ≡ unless (table_refusal (first_counts players counts) payoffs.now) tt }
+    ensures answer_value { told result.answer ≡ unless (table_refusal (first_counts players counts) payoffs.now) tt }
     ensures survivors_value { result.survivors ≡ unless_refused (table_refusal (first_counts players counts) payoffs.now) (fresh_of (first_counts players counts)) no_survivors }
 {
     if MAX_PLAYERS < players {
-        let space = StrategySpace {
-            players: 0,
-            counts: [0usize; MAX_PLAYERS],
-        };
         return FreshResult {
-            answer: UnitResult::Err(NormalFormError::TooManyPlayers),
-            survivors: survivors::all_marked(space),
+            answer: Err(NormalFormError::TooManyPlayers),
+            survivors: survivors::none(),
         };
     }
     survivors::fresh(&counts[..players], payoffs)
@@ -128,7 +122,7 @@ pub fn strike_of(
     player: usize,
     strategy: usize,
 ) -> StrikeResult
-    ensures answer_value { told_usize result.answer ≡ strike_answer (first_counts players counts) payoffs.now survivors (named player strategy) }
+    ensures answer_value { told result.answer ≡ strike_answer (first_counts players counts) payoffs.now survivors (named player strategy) }
     ensures survivors_value { result.survivors ≡ strike_leaves (first_counts players counts) payoffs.now survivors (named player strategy) }
 {
     if MAX_PLAYERS < players {

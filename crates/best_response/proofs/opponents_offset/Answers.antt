@@ -1,23 +1,12 @@
-use Prim.Native.Nat.{◌<◌}
 use native.Mathlib.Omega.{arith}
-use lib.ListN.{length}
 use Rattle.payoff_tables.proofs.Walk.{offset_room}
 use Rattle.responses.proofs.Opponents.{wrong_number, bad_opponent, opponents_law}
-use Rattle.best_response.proofs.Walk.{walked_none, walked_end, walked_own, walked_inside, walked_read, walked_other}
+use Rattle.best_response.proofs.Walk.{walked_none, walked_end, walked_own, walked_read, walked_other}
 use Rattle.best_response.proofs.opponents_offset.Goals as goal
-use Rattle.best_response.proofs.opponents_offset.Goals.{Then-p-player, then-p-player+else-count-choice, else-p-player}
+use Rattle.best_response.proofs.opponents_offset.Goals.{then-p-player+else-count-choice, else-p-player}
 
--- the opponent at hand is one of those given
-inside : (c : Then-p-player) → c.loop-p.next < length c.args.opponents.now
-inside c =
-    walked_inside _ _ _ c.requires.shape c.requires.player_in_bounds c.if-opponents-players.false c.loop-p.invariant
-    c.loop-p-test.true c.if-p-player.true
-
-pub overflow_sub-players : goal.overflow_sub-players
-overflow_sub-players c = c.requires.shape.some
-
-pub returns-then-opponents-players : goal.returns-then-opponents-players
-returns-then-opponents-players c = rw (wrong_number _ _ _ c.if-opponents-players.true)
+pub returns-then-opponents-counts : goal.returns-then-opponents-counts
+returns-then-opponents-counts c = rw (wrong_number _ _ _ c.if-opponents-counts.true)
 
 pub loop-p-init : goal.loop-p-init
 loop-p-init c = walked_none _ _ _
@@ -28,17 +17,11 @@ overflow_mul-at c =
     let h = c.loop-p-test.true in
     omega (arith, offset_room c.requires.shape l.at 0 l.p h l.invariant.under (c.requires.shape.low l.p h))
 
-pub offset_bounds-opponents-next : goal.offset_bounds-opponents-next
-offset_bounds-opponents-next c = omega (arith, inside (goal.at.offset_bounds-opponents-next c).Then-p-player)
-
-pub bounds-opponents-next : goal.bounds-opponents-next
-bounds-opponents-next c = inside (goal.at.bounds-opponents-next c).Then-p-player
-
 pub returns-then-count-choice : goal.returns-then-count-choice
 returns-then-count-choice c =
     let a = c.args in
     let l = c.loop-p in
-    let many = c.if-opponents-players.false in
+    let many = c.if-opponents-counts.false in
     let h = c.loop-p-test.true in
     let read = walked_read _ _ _ c.requires.shape c.requires.player_in_bounds many l.invariant h c.if-p-player.true in
     rw
@@ -51,13 +34,10 @@ overflow_add-at c =
     let l = c.loop-p in
     omega (arith, offset_room shape l.at _ l.p c.loop-p-test.true l.invariant.under c.if-count-choice.false)
 
-pub overflow_add-next : goal.overflow_add-next
-overflow_add-next c = omega (arith, inside (goal.at.overflow_add-next c).Then-p-player)
-
 pub loop-p-preserved : goal.loop-p-preserved
 loop-p-preserved c =
     let l = c.loop-p in
-    let many = c.if-opponents-players.false in
+    let many = c.if-opponents-counts.false in
     let h = c.loop-p-test.true in
     elim c.if-p-player.branch [
       | then-p-player+else-count-choice w ↦ rw (w.at-is, w.next-is) (walked_other _ _ _ c.requires.shape c.requires.player_in_bounds many l.invariant h w.if-p-player.true w.if-count-choice.false)
@@ -66,5 +46,5 @@ loop-p-preserved c =
 
 pub returns : goal.returns
 returns c =
-    let (all, is) = walked_end _ _ _ c.requires.shape c.requires.player_in_bounds c.if-opponents-players.false c.loop-p.invariant (omega arith) in
-    rw ((opponents_law _ _ _).1 (c.if-opponents-players.false, all), is)
+    let (all, is) = walked_end _ _ _ c.requires.shape c.requires.player_in_bounds c.if-opponents-counts.false c.loop-p.invariant (omega arith) in
+    rw ((opponents_law _ _ _).1 (c.if-opponents-counts.false, all), is)

@@ -6,16 +6,18 @@ use Prim.Native.Nat.{ℕ, ◌+◌, ◌*◌, ◌<◌, ◌≤◌}
 use native.Mathlib.Omega.{arith}
 use lib.ListN.{length, get_or}
 use lib.Seq.{take-length}
+use mathlib.Core.Option.{some}
+use Rattle.refusal.specs.declared.NormalFormError.TheVariants.{OutputTooShort}
 use Rattle.refusal.specs.Told.{values}
+use Rattle.written_lists.specs.Outputs.{room_refusal}
 use Rattle.written_lists.proofs.Outputs.{first_short, second_short, room_fits}
-use Rattle.payoff_tables.specs.Table.{stride}
 use Rattle.payoff_tables.specs.Limits.{max_strategies, max_marks}
 use Rattle.payoff_tables.proofs.Walk.{step_room}
-use Rattle.strategy_row.proofs.Row.{first_cell, lowest_below}
+use Rattle.strategy_row.proofs.Row.{lowest_below}
 use Rattle.best_response.specs.Row.{row_responses, row_answer, row_utilities}
 use Rattle.best_response.proofs.Responses.{found_responses, found_whole}
 use Rattle.best_response.proofs.row_responses.Goals as goal
-use Rattle.best_response.proofs.row_responses.Goals.{After-best, After-count_best-number, After-stride, Start}
+use Rattle.best_response.proofs.row_responses.Goals.{After-best, After-count_best-number, After-stride, Start, then-strategies-number-via-then-strategies-number, then-strategies-number-via-else-strategies-number+then-utilities-number}
 
 module _ (c : Start) where
   abbrev players : ℕ
@@ -23,15 +25,6 @@ module _ (c : Start) where
 
   abbrev count : ℕ
   count = get_or c.args.counts.now c.args.player 0
-
-  abbrev start : ℕ
-  start = c.args.at * players + c.args.player
-
-  some-strategy : 0 < count
-  some-strategy = c.requires.table.shape.low c.args.player c.requires.player_in_bounds
-
-  first : start < length c.args.payoffs.now
-  first = rw (← first_cell start (stride c.args.counts.now c.args.player * players)) (c.requires.by_index 0 some-strategy)
 
   marks : c.args.player * max_strategies + count ≤ max_marks
   marks = let s = c.requires.table.shape in omega (arith, s.few, s.high c.args.player c.requires.player_in_bounds, c.requires.player_in_bounds)
@@ -68,25 +61,9 @@ module _ (c : After-count_best-number) where
       c.count_best-number.ensures
       ∙ ap length (found_responses _ _ _ _ c.stride.ensures c.best.ensures)
 
-pub overflow_mul-start : goal.overflow_mul-start
-overflow_mul-start c = omega (arith, first (goal.at.overflow_mul-start c).Start)
-
-pub overflow_add-start : goal.overflow_add-start
-overflow_add-start c = omega (arith, first (goal.at.overflow_add-start c).Start)
-
 pub overflow_mul-step : goal.overflow_mul-step
 overflow_mul-step c =
     omega (arith, step_room c.requires.table.shape c.args.player, ap (λ (n : ℕ). n * players (goal.at.overflow_mul-step c).Start) c.stride.ensures)
-
-pub best-requires : goal.best-requires
-best-requires c =
-    let s = (goal.at.best-requires c).Start in
-    record {
-      finites = c.requires.table.finites;
-      count_in_bounds = marks s;
-      by_index = row (goal.at.best-requires c).After-stride;
-      count_nonzero = some-strategy s;
-    }
 
 pub overflow_mul-top : goal.overflow_mul-top
 overflow_mul-top c = omega (arith, top (goal.at.overflow_mul-top c).After-best)
@@ -107,15 +84,14 @@ pub returns-then-strategies-number : goal.returns-then-strategies-number
 unfolding row_answer row_utilities
 returns-then-strategies-number c =
     let k = (goal.at.returns-then-strategies-number c).After-count_best-number in
-    rw (first_short (length (all k)) (room k) (room' k) (rw (← number k) c.if-strategies-number.true))
-    (record { result_value = refl; strategies_after = refl; utilities_after = refl })
-
-pub returns-then-utilities-number : goal.returns-then-utilities-number
-unfolding row_answer row_utilities
-returns-then-utilities-number c =
-    let k = (goal.at.returns-then-utilities-number c).After-count_best-number in
-    rw (second_short (length (all k)) (room k) (room' k) (rw (← number k) c.if-strategies-number.false) (rw (← number k) c.if-utilities-number.true))
-    (record { result_value = refl; strategies_after = refl; utilities_after = refl })
+    let n = length (all k) in
+    let short : room_refusal n (room k) (room' k) ≡ some OutputTooShort =
+    elim c.then-strategies-number.branch [
+      | then-strategies-number-via-then-strategies-number w ↦ first_short n (room k) (room' k) (rw (← number k) w.if-strategies-number.true)
+      | then-strategies-number-via-else-strategies-number+then-utilities-number w ↦
+          second_short n (room k) (room' k) (rw (← number k) w.if-strategies-number.false) (rw (← number k) w.if-utilities-number.true)
+    ] in
+    rw short (record { result_value = refl; strategies_after = refl; utilities_after = refl })
 
 pub write_best-requires : goal.write_best-requires
 write_best-requires c =

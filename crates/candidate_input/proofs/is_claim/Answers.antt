@@ -1,4 +1,5 @@
--- `candidate_input::is_claim` meets its contract: the tests are those of `claimed`. Assumes nothing.
+-- `candidate_input::is_claim` meets its contract: the tests are those of `claimed`. Assumes
+-- nothing.
 use mathlib.Core.Path.{sym, ◌∙◌}
 use native.Mathlib.Omega.{arith}
 use Rattle.candidate_input.specs.Input.{claimed}

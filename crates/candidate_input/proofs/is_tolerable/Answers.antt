@@ -1,4 +1,5 @@
--- `candidate_input::is_tolerable` meets its contract: the tests are those of `tolerable`. Assumes nothing.
+-- `candidate_input::is_tolerable` meets its contract: the tests are those of `tolerable`. Assumes
+-- nothing.
 use mathlib.Core.Path.{ap}
 use mathlib.Core.Bool.{Bool, not, ◌&&◌}
 use lib.Ieee.{lt}

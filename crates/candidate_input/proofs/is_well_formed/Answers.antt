@@ -1,4 +1,5 @@
--- `candidate_input::is_well_formed` meets its contract: the tests are those of `wellFormed`. Assumes nothing.
+-- `candidate_input::is_well_formed` meets its contract: the tests are those of `wellFormed`.
+-- Assumes nothing.
 use mathlib.Core.Path.{sym, ◌∙◌}
 use native.Mathlib.Omega.{arith}
 use Rattle.candidate_input.specs.Input.{well_formed}

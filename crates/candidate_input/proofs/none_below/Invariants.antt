@@ -1,10 +1,9 @@
--- `candidate_input::none_below` meets its contract. The loop's invariant: `ok` says whether no value passed is below the bound. The measure is what
--- is left of the length. Assumes nothing.
+-- `candidate_input::none_below` meets its contract. The loop's invariant: `ok` says whether no
+-- value passed is below the bound. Assumes nothing.
 use mathlib.Core.Path.{◌≡◌}
 use mathlib.Core.Bool.{Bool, not}
-use Prim.Native.Nat.{◌≤◌, ◌-◌}
 use lib.Ieee.{Float, lt}
-use lib.ListN.{length, take}
+use lib.ListN.{take}
 use Rattle.game.specs.Finite.{all}
 use Rattle.candidate_input.proofs.none_below.Given as goal
 
@@ -12,8 +11,5 @@ use Rattle.candidate_input.proofs.none_below.Given as goal
 abbrev pub passes : Float → Float → Bool
 passes bound x = not (lt x bound)
 
-abbrev pub invariant-loop-i : goal.invariant-loop-i
-invariant-loop-i l = (l.i ≤ length l.values) × (l.ok ≡ all (passes l.bound) (take l.i l.values))
-
-abbrev pub decreases-loop-i : goal.decreases-loop-i
-decreases-loop-i l = length l.values - l.i
+abbrev pub invariant-loop-value : goal.invariant-loop-value
+invariant-loop-value l = l.ok ≡ all (passes l.bound) (take l.value-index l.values)

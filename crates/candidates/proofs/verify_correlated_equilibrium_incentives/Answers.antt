@@ -1,5 +1,5 @@
--- `candidates::verify_correlated_equilibrium_incentives` meets its contract: 0.0, raised by player 1's gains and then by player 2's, is the
--- greatest of all. Assumes nothing.
+-- `candidates::verify_correlated_equilibrium_incentives` meets its contract: 0.0, raised by player
+-- 1's gains and then by player 2's, is the greatest of all. Assumes nothing.
 use mathlib.Core.Path.{◌≡◌, sym, ap, ◌∙◌, subst}
 use mathlib.Core.Bool.{true}
 use lib.Dec.{T}

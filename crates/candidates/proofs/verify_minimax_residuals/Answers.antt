@@ -1,5 +1,5 @@
--- `candidates::verify_minimax_residuals` meets its contract: the tests are those of `minimax`, and an infinity as a bound lets every finite
--- expectation pass. Assumes nothing.
+-- `candidates::verify_minimax_residuals` meets its contract: the tests are those of `minimax`, and
+-- an infinity as a bound lets every finite expectation pass. Assumes nothing.
 use mathlib.Core.Path.{◌≡◌, sym, ap, ◌∙◌, subst}
 use mathlib.Core.Bool.{true, false}
 use native.Mathlib.Omega.{arith}

@@ -32,23 +32,23 @@ module _ (counts : List ℕ) (payoffs : List Float) (two : two_by_two counts ≡
       ∙ sym (ap (λ (r : Bimatrix). cond (strictly_ranked r) (place catalogue (least_key r)) none) found-is)
       ∙ ap (λ (t : Bool). cond t (place catalogue (least_key (bimatrix_of a b))) none) e
 
-pub player_ranks-requires : goal.player_ranks-requires
-player_ranks-requires c = let f = known c.args.counts.now c.args.payoffs.now (sym c.two_by_two.ensures ∙ c.if-two_by_two.true) c.requires in record { payoffs_len = (f.0, omega arith); finites = f.1 }
+pub returns-then-not-two_by_two : goal.returns-then-not-two_by_two
+returns-then-not-two_by_two c = sym (other_number catalogue c.args.counts.now c.args.payoffs.now (sym c.two_by_two.ensures ∙ c.if-not-two_by_two.true))
 
-pub player_ranks-requires-then-two_by_two : goal.player_ranks-requires-then-two_by_two
-player_ranks-requires-then-two_by_two c = let f = known c.args.counts.now c.args.payoffs.now (sym c.two_by_two.ensures ∙ c.if-two_by_two.true) c.requires in record { payoffs_len = (f.0, omega arith); finites = f.1 }
+pub player_ranks-requires-clause-payoffs_len : goal.player_ranks-requires-clause-payoffs_len
+player_ranks-requires-clause-payoffs_len c = ((known c.args.counts.now c.args.payoffs.now (sym c.two_by_two.ensures ∙ c.if-not-two_by_two.false) c.requires).0, omega arith)
+
+pub player_ranks-requires-2-clause-payoffs_len : goal.player_ranks-requires-2-clause-payoffs_len
+player_ranks-requires-2-clause-payoffs_len c = ((known c.args.counts.now c.args.payoffs.now (sym c.two_by_two.ensures ∙ c.if-not-two_by_two.false) c.requires).0, omega arith)
 
 pub returns-then-strictly_ranked : goal.returns-then-strictly_ranked
 returns-then-strictly_ranked c =
     c.place.ensures
-    ∙ ap₂ place c.keys-keys.ensures c.least_key.ensures
-    ∙ sym (told c.args.counts.now c.args.payoffs.now (sym c.two_by_two.ensures ∙ c.if-two_by_two.true) c.player_ranks.result c.player_ranks-then-two_by_two.result
-    c.player_ranks.ensures c.player_ranks-then-two_by_two.ensures true (sym c.strictly_ranked.ensures ∙ c.if-strictly_ranked.true))
+    ∙ ap₂ place c.keys.ensures c.least_key.ensures
+    ∙ sym (told c.args.counts.now c.args.payoffs.now (sym c.two_by_two.ensures ∙ c.if-not-two_by_two.false) c.player_ranks.result c.player_ranks-2.result
+    c.player_ranks.ensures c.player_ranks-2.ensures true (sym c.strictly_ranked.ensures ∙ c.if-strictly_ranked.true))
 
 pub returns-else-strictly_ranked : goal.returns-else-strictly_ranked
 returns-else-strictly_ranked c =
-    sym (told c.args.counts.now c.args.payoffs.now (sym c.two_by_two.ensures ∙ c.if-two_by_two.true) c.player_ranks.result c.player_ranks-then-two_by_two.result
-    c.player_ranks.ensures c.player_ranks-then-two_by_two.ensures false (sym c.strictly_ranked.ensures ∙ c.if-strictly_ranked.false))
-
-pub returns-else-two_by_two : goal.returns-else-two_by_two
-returns-else-two_by_two c = sym (other_number catalogue c.args.counts.now c.args.payoffs.now (sym c.two_by_two.ensures ∙ c.if-two_by_two.false))
+    sym (told c.args.counts.now c.args.payoffs.now (sym c.two_by_two.ensures ∙ c.if-not-two_by_two.false) c.player_ranks.result c.player_ranks-2.result
+    c.player_ranks.ensures c.player_ranks-2.ensures false (sym c.strictly_ranked.ensures ∙ c.if-strictly_ranked.false))

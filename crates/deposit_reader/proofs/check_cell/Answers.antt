@@ -1,4 +1,5 @@
--- `deposit_reader::check_cell` meets its contract: word by word, as its three words are read. Assumes nothing.
+-- `deposit_reader::check_cell` meets its contract: word by word, as its three words are read.
+-- Assumes nothing.
 use mathlib.Core.Path.{◌≡◌, refl, sym, ap, ◌∙◌}
 use mathlib.Core.Bool.{Bool, true, false, not}
 use mathlib.Core.List.{List}
@@ -11,7 +12,7 @@ use lib.ListN.{get_or}
 use Rattle.refusal.specs.Refusal.{when}
 use Rattle.refusal.specs.declared.NormalFormError.TheVariants.{NonFiniteUtility}
 use Rattle.refusal.specs.Told.{values, refused, unless}
-use Rattle.refusal.proofs.Told.{told_values, told_refused, refused_first}
+use Rattle.refusal.proofs.Told.{told_values, told_refused, handed_on, hands_on}
 use Rattle.payoff_order.specs.Order.{finite}
 use Rattle.file_words.specs.Words.{words_of, payload_at}
 use Rattle.file_words.specs.Faults.{due_fault}
@@ -56,16 +57,16 @@ pub returns-then-top-gt-FIRST_LARGEST : goal.returns-then-top-gt-FIRST_LARGEST
 returns-then-top-gt-FIRST_LARGEST c =
     let ws = words_of c.args.bytes.now in
     let at = c.args.place in
-    let first = due_told ws at c.in-Ok.top c.in-Ok.ensures in
+    let first = due_told ws at c.in_ok-top.top c.in_ok-top.ensures in
     rw (first_over ws at first.0 (omega (arith, first.1, c.if-top-gt-FIRST_LARGEST.true))) refl
 
 pub joined_bits-bits-requires : goal.joined_bits-bits-requires
 joined_bits-bits-requires c =
     let ws = words_of c.args.bytes.now in
     let at = c.args.place in
-    bounds ws at _ _ _ (due_told ws at c.in-Ok.top c.in-Ok.ensures) c.if-top-gt-FIRST_LARGEST.false
-    (due_told ws (at + 1) c.in-Ok-due.next c.in-Ok-due.ensures)
-    (due_told ws (at + 2) c.in-Ok-due-2.last c.in-Ok-due-2.ensures)
+    bounds ws at _ _ _ (due_told ws at c.in_ok-top.top c.in_ok-top.ensures) c.if-top-gt-FIRST_LARGEST.false
+    (due_told ws (at + 1) c.in_ok-next.next c.in_ok-next.ensures)
+    (due_told ws (at + 2) c.in_ok-last.last c.in_ok-last.ensures)
 
 pub returns-then-bits-eq2047 : goal.returns-then-bits-eq2047
 returns-then-bits-eq2047 c =
@@ -73,41 +74,41 @@ returns-then-bits-eq2047 c =
     let at = c.args.place in
     let bits = c.joined_bits-bits.result in
     let all =
-    read ws at _ _ _ (due_told ws at c.in-Ok.top c.in-Ok.ensures) c.if-top-gt-FIRST_LARGEST.false
-    (due_told ws (at + 1) c.in-Ok-due.next c.in-Ok-due.ensures)
-    (due_told ws (at + 2) c.in-Ok-due-2.last c.in-Ok-due-2.ensures)
+    read ws at _ _ _ (due_told ws at c.in_ok-top.top c.in_ok-top.ensures) c.if-top-gt-FIRST_LARGEST.false
+    (due_told ws (at + 1) c.in_ok-next.next c.in_ok-next.ensures)
+    (due_told ws (at + 2) c.in_ok-last.last c.in_ok-last.ensures)
     bits c.joined_bits-bits.ensures in
     rw (all, eq-eqb (bits % 2 ^ 63 / 2 ^ 52) 2047 c.if-bits-eq2047.true) refl
 
-pub returns-in-Err : goal.returns-in-Err
+pub returns-in_err-top : goal.returns-in_err-top
 unfolding cell_fault
-returns-in-Err c = refused_first (due_fault (words_of c.args.bytes.now) c.args.place 2) _ _ _ c.in-Err.ensures _
+returns-in_err-top c = hands_on _ _ (due_fault (words_of c.args.bytes.now) c.args.place 2) _ _ _ c.from_residual.ensures.1 c.in_err-top.ensures
 
-pub returns-in-Err-due : goal.returns-in-Err-due
-returns-in-Err-due c =
+pub returns-in_err-next : goal.returns-in_err-next
+returns-in_err-next c =
     let ws = words_of c.args.bytes.now in
     let at = c.args.place in
-    let first = due_told ws at c.in-Ok.top c.in-Ok.ensures in
-    let t = told_refused (due_fault ws (at + 1) 2) _ _ c.in-Err-due.ensures in
-    rw (second_bad ws at first.0 (omega (arith, first.1, c.if-top-gt-FIRST_LARGEST.false)) t.0 t.1) (ap (λ (n : ℕ). refused n) t.2)
+    let first = due_told ws at c.in_ok-top.top c.in_ok-top.ensures in
+    let t = told_refused (due_fault ws (at + 1) 2) _ _ c.in_err-next.ensures in
+    rw (second_bad ws at first.0 (omega (arith, first.1, c.if-top-gt-FIRST_LARGEST.false)) t.0 t.1) (handed_on _ _ c.from_residual-in_err-next.ensures.1 ∙ ap (λ (n : ℕ). refused n) t.2)
 
-pub returns-in-Err-due-2 : goal.returns-in-Err-due-2
-returns-in-Err-due-2 c =
+pub returns-in_err-last : goal.returns-in_err-last
+returns-in_err-last c =
     let ws = words_of c.args.bytes.now in
     let at = c.args.place in
-    let first = due_told ws at c.in-Ok.top c.in-Ok.ensures in
-    let second = due_told ws (at + 1) c.in-Ok-due.next c.in-Ok-due.ensures in
-    let t = told_refused (due_fault ws (at + 2) 2) _ _ c.in-Err-due-2.ensures in
-    rw (third_bad ws at first.0 (omega (arith, first.1, c.if-top-gt-FIRST_LARGEST.false)) second.0 t.0 t.1) (ap (λ (n : ℕ). refused n) t.2)
+    let first = due_told ws at c.in_ok-top.top c.in_ok-top.ensures in
+    let second = due_told ws (at + 1) c.in_ok-next.next c.in_ok-next.ensures in
+    let t = told_refused (due_fault ws (at + 2) 2) _ _ c.in_err-last.ensures in
+    rw (third_bad ws at first.0 (omega (arith, first.1, c.if-top-gt-FIRST_LARGEST.false)) second.0 t.0 t.1) (handed_on _ _ c.from_residual-in_err-last.ensures.1 ∙ ap (λ (n : ℕ). refused n) t.2)
 
-pub returns-else-bits-eq2047 : goal.returns-else-bits-eq2047
-returns-else-bits-eq2047 c =
+pub returns : goal.returns
+returns c =
     let ws = words_of c.args.bytes.now in
     let at = c.args.place in
     let bits = c.joined_bits-bits.result in
     let all =
-    read ws at _ _ _ (due_told ws at c.in-Ok.top c.in-Ok.ensures) c.if-top-gt-FIRST_LARGEST.false
-    (due_told ws (at + 1) c.in-Ok-due.next c.in-Ok-due.ensures)
-    (due_told ws (at + 2) c.in-Ok-due-2.last c.in-Ok-due-2.ensures)
+    read ws at _ _ _ (due_told ws at c.in_ok-top.top c.in_ok-top.ensures) c.if-top-gt-FIRST_LARGEST.false
+    (due_told ws (at + 1) c.in_ok-next.next c.in_ok-next.ensures)
+    (due_told ws (at + 2) c.in_ok-last.last c.in_ok-last.ensures)
     bits c.joined_bits-bits.ensures in
     rw (all, ne_eqb (bits % 2 ^ 63 / 2 ^ 52) 2047 c.if-bits-eq2047.false) refl

@@ -1,4 +1,5 @@
--- `deposit_reader::payoff_at` meets its contract: the bits of a cell without a fault are no NaN's. Assumes nothing.
+-- `deposit_reader::payoff_at` meets its contract: the bits of a cell without a fault are no NaN's.
+-- Assumes nothing.
 use mathlib.Core.Path.{◌≡◌, sym, subst, ap, ◌∙◌}
 use mathlib.Core.List.{List}
 use mathlib.Core.Option.{none}

@@ -12,7 +12,7 @@ use Rattle.refusal.specs.Refusal.{when, each, ◌then◌}
 use Rattle.refusal.specs.declared.NormalFormError.TheVariants.{TooManyCells, OutputTooShort}
 use Rattle.refusal.specs.Told.{Told, values, unless}
 use Rattle.refusal.proofs.Refusal.{when_none, then_none, none_each}
-use Rattle.refusal.proofs.Told.{told_values, told_refused}
+use Rattle.refusal.proofs.Told.{told_values, told_refused, handed_on}
 use Rattle.payoff_tables.specs.Limits.{max_players, max_cells}
 use Rattle.payoff_tables.specs.Table.{cells}
 use Rattle.file_words.specs.Words.{words_of}
@@ -72,15 +72,15 @@ cell bytes sound i h =
 pub cell_count-requires : goal.cell_count-requires
 cell_count-requires c =
     let bytes = c.args.bytes.now in
-    let o = opens bytes c.in-Ok.players c.in-Ok.ensures in
-    let f = few bytes c.in-Ok.players o in
+    let o = opens bytes c.in_ok-players.players c.in_ok-players.ensures in
+    let f = few bytes c.in_ok-players.players o in
     (o.1, f.0, f.1)
 
 pub returns-then-counts-players : goal.returns-then-counts-players
 returns-then-counts-players c =
     let bytes = c.args.bytes.now in
-    let o = opens bytes c.in-Ok.players c.in-Ok.ensures in
-    let k = count bytes c.in-Ok-cell_count.cells (cells_told bytes c.in-Ok.players o.1 _ c.in-Ok-cell_count.ensures) in
+    let o = opens bytes c.in_ok-players.players c.in_ok-players.ensures in
+    let k = count bytes c.in_ok-cells.cells (cells_told bytes c.in_ok-players.players o.1 _ c.in_ok-cells.ensures) in
     let t =
     read_refused bytes c.args.counts.now c.args.payoffs.now OutputTooShort 13 refl
     (short_counts bytes _ _ o.0 k.0 (omega (arith, o.1, c.if-counts-players.true))) in
@@ -89,8 +89,8 @@ returns-then-counts-players c =
 pub returns-then-payoffs-cells : goal.returns-then-payoffs-cells
 returns-then-payoffs-cells c =
     let bytes = c.args.bytes.now in
-    let o = opens bytes c.in-Ok.players c.in-Ok.ensures in
-    let k = count bytes c.in-Ok-cell_count.cells (cells_told bytes c.in-Ok.players o.1 _ c.in-Ok-cell_count.ensures) in
+    let o = opens bytes c.in_ok-players.players c.in_ok-players.ensures in
+    let k = count bytes c.in_ok-cells.cells (cells_told bytes c.in_ok-players.players o.1 _ c.in_ok-cells.ensures) in
     let t =
     read_refused bytes c.args.counts.now c.args.payoffs.now OutputTooShort 13 refl
     (short_payoffs bytes _ _ o.0 k.0 (omega (arith, o.1, c.if-counts-players.false)) (omega (arith, k.1, c.if-payoffs-cells.true))) in
@@ -99,62 +99,62 @@ returns-then-payoffs-cells c =
 pub check_rest-requires : goal.check_rest-requires
 check_rest-requires c =
     let bytes = c.args.bytes.now in
-    let o = opens bytes c.in-Ok.players c.in-Ok.ensures in
-    let k = count bytes c.in-Ok-cell_count.cells (cells_told bytes c.in-Ok.players o.1 _ c.in-Ok-cell_count.ensures) in
-    ((few bytes c.in-Ok.players o).1, many bytes c.in-Ok-cell_count.cells k)
+    let o = opens bytes c.in_ok-players.players c.in_ok-players.ensures in
+    let k = count bytes c.in_ok-cells.cells (cells_told bytes c.in_ok-players.players o.1 _ c.in_ok-cells.ensures) in
+    ((few bytes c.in_ok-players.players o).1, many bytes c.in_ok-cells.cells k)
 
 pub put_counts-requires : goal.put_counts-requires
 put_counts-requires c =
     let bytes = c.args.bytes.now in
-    let o = opens bytes c.in-Ok.players c.in-Ok.ensures in
-    (o.1, (few bytes c.in-Ok.players o).1, c.if-counts-players.false)
+    let o = opens bytes c.in_ok-players.players c.in_ok-players.ensures in
+    (o.1, (few bytes c.in_ok-players.players o).1, c.if-counts-players.false)
 
 pub put_payoffs-requires : goal.put_payoffs-requires
 put_payoffs-requires c =
     let bytes = c.args.bytes.now in
-    let o = opens bytes c.in-Ok.players c.in-Ok.ensures in
-    let k = count bytes c.in-Ok-cell_count.cells (cells_told bytes c.in-Ok.players o.1 _ c.in-Ok-cell_count.ensures) in
+    let o = opens bytes c.in_ok-players.players c.in_ok-players.ensures in
+    let k = count bytes c.in_ok-cells.cells (cells_told bytes c.in_ok-players.players o.1 _ c.in_ok-cells.ensures) in
     let sound =
-    (told_values (rest bytes) tt tt (rest_told bytes c.in-Ok.players c.in-Ok-cell_count.cells o.1 k.1 (values tt) c.in-Ok-check_rest.ensures)).0 in
+    (told_values (rest bytes) tt tt (rest_told bytes c.in_ok-players.players c.in_ok-cells.cells o.1 k.1 (values tt) c.in_ok-check_rest.ensures)).0 in
     record {
-      players_value = (o.1, (few bytes c.in-Ok.players o).1);
-      number_value = (k.1, many bytes c.in-Ok-cell_count.cells k, c.if-payoffs-cells.false);
+      players_value = (o.1, (few bytes c.in_ok-players.players o).1);
+      number_value = (k.1, many bytes c.in_ok-cells.cells k, c.if-payoffs-cells.false);
       by_index = λ i h. cell bytes sound i (omega (arith, h, k.1));
     }
 
-pub returns-in-Err : goal.returns-in-Err
-returns-in-Err c =
+pub returns-in_err-players : goal.returns-in_err-players
+returns-in_err-players c =
     let bytes = c.args.bytes.now in
-    let t = told_refused (opened bytes) _ _ c.in-Err.ensures in
+    let t = told_refused (opened bytes) _ _ c.in_err-players.ensures in
     let r = read_refused bytes c.args.counts.now c.args.payoffs.now t.0 _ t.2 (bad_opening bytes _ _ t.0 t.1) in
-    record { result_value = r.0; counts_after = r.1.0; payoffs_after = r.1.1 }
+    record { result_value = handed_on _ _ c.from_residual.ensures.1 ∙ r.0; counts_after = r.1.0; payoffs_after = r.1.1 }
 
-pub returns-in-Err-cell_count : goal.returns-in-Err-cell_count
-returns-in-Err-cell_count c =
+pub returns-in_err-cells : goal.returns-in_err-cells
+returns-in_err-cells c =
     let bytes = c.args.bytes.now in
-    let o = opens bytes c.in-Ok.players c.in-Ok.ensures in
-    let t = told_refused (counted bytes) _ _ (cells_told bytes c.in-Ok.players o.1 _ c.in-Err-cell_count.ensures) in
+    let o = opens bytes c.in_ok-players.players c.in_ok-players.ensures in
+    let t = told_refused (counted bytes) _ _ (cells_told bytes c.in_ok-players.players o.1 _ c.in_err-cells.ensures) in
     let r = read_refused bytes c.args.counts.now c.args.payoffs.now t.0 _ t.2 (bad_counts bytes _ _ o.0 t.0 t.1) in
-    record { result_value = r.0; counts_after = r.1.0; payoffs_after = r.1.1 }
+    record { result_value = handed_on _ _ c.from_residual-in_err-cells.ensures.1 ∙ r.0; counts_after = r.1.0; payoffs_after = r.1.1 }
 
-pub returns-in-Err-check_rest : goal.returns-in-Err-check_rest
-returns-in-Err-check_rest c =
+pub returns-in_err-check_rest : goal.returns-in_err-check_rest
+returns-in_err-check_rest c =
     let bytes = c.args.bytes.now in
-    let o = opens bytes c.in-Ok.players c.in-Ok.ensures in
-    let k = count bytes c.in-Ok-cell_count.cells (cells_told bytes c.in-Ok.players o.1 _ c.in-Ok-cell_count.ensures) in
+    let o = opens bytes c.in_ok-players.players c.in_ok-players.ensures in
+    let k = count bytes c.in_ok-cells.cells (cells_told bytes c.in_ok-players.players o.1 _ c.in_ok-cells.ensures) in
     let left = room_is_rest bytes (length c.args.counts.now) (length c.args.payoffs.now) o.0 k.0 (omega (arith, o.1, c.if-counts-players.false)) (omega (arith, k.1, c.if-payoffs-cells.false)) in
-    let t = told_refused (rest bytes) _ _ (rest_told bytes c.in-Ok.players c.in-Ok-cell_count.cells o.1 k.1 _ c.in-Err-check_rest.ensures) in
+    let t = told_refused (rest bytes) _ _ (rest_told bytes c.in_ok-players.players c.in_ok-cells.cells o.1 k.1 _ c.in_err-check_rest.ensures) in
     let r = read_refused bytes c.args.counts.now c.args.payoffs.now t.0 _ t.2 (left ∙ t.1) in
-    record { result_value = r.0; counts_after = r.1.0; payoffs_after = r.1.1 }
+    record { result_value = handed_on _ _ c.from_residual-in_err-check_rest.ensures.1 ∙ r.0; counts_after = r.1.0; payoffs_after = r.1.1 }
 
-pub returns-in-Ok-check_rest : goal.returns-in-Ok-check_rest
-returns-in-Ok-check_rest c =
+pub returns : goal.returns
+returns c =
     let bytes = c.args.bytes.now in
-    let o = opens bytes c.in-Ok.players c.in-Ok.ensures in
-    let k = count bytes c.in-Ok-cell_count.cells (cells_told bytes c.in-Ok.players o.1 _ c.in-Ok-cell_count.ensures) in
+    let o = opens bytes c.in_ok-players.players c.in_ok-players.ensures in
+    let k = count bytes c.in_ok-cells.cells (cells_told bytes c.in_ok-players.players o.1 _ c.in_ok-cells.ensures) in
     let left = room_is_rest bytes (length c.args.counts.now) (length c.args.payoffs.now) o.0 k.0 (omega (arith, o.1, c.if-counts-players.false)) (omega (arith, k.1, c.if-payoffs-cells.false)) in
     let sound =
-    (told_values (rest bytes) tt tt (rest_told bytes c.in-Ok.players c.in-Ok-cell_count.cells o.1 k.1 (values tt) c.in-Ok-check_rest.ensures)).0 in
+    (told_values (rest bytes) tt tt (rest_told bytes c.in_ok-players.players c.in_ok-cells.cells o.1 k.1 (values tt) c.in_ok-check_rest.ensures)).0 in
     let t = read_accepted bytes c.args.counts.now c.args.payoffs.now (left ∙ sound) in
     record {
       result_value = ap (λ (n : ℕ). values n) o.1 ∙ t.0;

@@ -1,4 +1,5 @@
--- `deposit_writer::pair` meets its contract: the sum is the two words, and the test is passed because the caller's payoff is finite. Assumes nothing.
+-- `deposit_writer::pair` meets its contract: the sum is the two words, and the test is passed
+-- because the caller's payoff is finite. Assumes nothing.
 use mathlib.Core.Path.{sym, ◌∙◌, subst}
 use lib.Dec.{T}
 use Rattle.payoff_order.proofs.Laws.{finite_no_nan}

@@ -1,4 +1,5 @@
--- `deposit_writer::put_payoff` meets its contract: the first word and the pair of the other two, put one after the other. Assumes nothing.
+-- `deposit_writer::put_payoff` meets its contract: the first word and the pair of the other two,
+-- put one after the other. Assumes nothing.
 use mathlib.Core.Path.{◌≡◌, refl, sym, ap, ◌∙◌, subst}
 use mathlib.Core.List.{List, [], ◌∷◌}
 use Prim.Native.Nat.{ℕ, ◌+◌, ◌*◌, ◌/◌, ◌%◌, ◌^◌, ◌<◌}

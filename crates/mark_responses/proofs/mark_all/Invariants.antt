@@ -10,6 +10,3 @@ use Rattle.mark_responses.proofs.mark_all.Given as goal
 
 abbrev pub invariant-loop-p : goal.invariant-loop-p
 invariant-loop-p l = (l.p ≤ length l.counts) × (l.stride ≡ product (drop l.p l.counts)) × (length l.steps ≡ max_strategies) × PlayersMarked l.counts l.payoffs l.survivors l.p l.initial.marks l.marks
-
-abbrev pub decreases-loop-p : goal.decreases-loop-p
-decreases-loop-p l = l.p

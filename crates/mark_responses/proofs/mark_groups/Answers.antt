@@ -1,16 +1,11 @@
-use mathlib.Core.Path.{◌≡◌, refl, ◌∙◌}
+use mathlib.Core.Path.{◌≡◌, ◌∙◌}
 use Prim.Native.Nat.{ℕ, ◌+◌, ◌*◌, ◌<◌}
 use native.Mathlib.Omega.{arith}
 use borrow.Author.Rules.{rules}
 use lib.ListN.{length}
-use Rattle.mark_responses.proofs.Rows.{rows_none, nested_more}
+use Rattle.mark_responses.proofs.Rows.{nested_more}
 use Rattle.mark_responses.proofs.mark_groups.Goals as goal
 use Rattle.mark_responses.proofs.mark_groups.Goals.{In-loop-o}
-
-pub loop-o-init : goal.loop-o-init
-loop-o-init c =
-    let a = c.args in
-    (omega arith, refl, rows_none a.payoffs.now a.steps.now _ a.marks.now (λ s (o, l, _). omega (arith, l)))
 
 -- the group at hand begins within the table
 inside : (c : In-loop-o) → let a = c.args in a.start + c.loop-o.o * a.far < length a.payoffs.now
@@ -35,9 +30,6 @@ mark_rows-requires c =
       within = λ at j w k. r.within at j (l.o, c.loop-o-test.true, w) k;
       payoffs_len_bound = (r.payoffs_len_bound.0, omega (arith, l.invariant.1, r.payoffs_len_bound), r.payoffs_len_bound.3);
     }
-
-pub overflow_add-o : goal.overflow_add-o
-overflow_add-o c = omega (arith, c.requires.payoffs_len_bound)
 
 pub loop-o-preserved : goal.loop-o-preserved
 loop-o-preserved c =

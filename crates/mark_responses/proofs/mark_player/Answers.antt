@@ -60,17 +60,8 @@ fact c =
     let at = c.requires.profiles_value in
     facts a.counts.now a.payoffs.now a.player a.stride a.profiles c.requires.table at.1 at.2 at.0
 
-pub offset_bounds-counts-player : goal.offset_bounds-counts-player
-offset_bounds-counts-player c = omega (arith, fact (goal.at.offset_bounds-counts-player c).Start, c.requires.profiles_value)
-
-pub bounds-counts-player : goal.bounds-counts-player
-bounds-counts-player c = c.requires.profiles_value.1
-
 pub overflow_mul-step : goal.overflow_mul-step
 overflow_mul-step c = omega (arith, fact (goal.at.overflow_mul-step c).Start)
-
-pub overflow_mul-player : goal.overflow_mul-player
-overflow_mul-player c = omega (arith, fact (goal.at.overflow_mul-player c).Start, c.requires.profiles_value)
 
 pub put_steps-number-requires : goal.put_steps-number-requires
 put_steps-number-requires c =
@@ -132,12 +123,6 @@ within c S (to, from) =
     rows_within a.counts.now a.payoffs.now a.survivors.now c.requires.table a.player at.1 (blocks a.counts.now a.player a.stride a.profiles)
     (all_blocks a.counts.now a.payoffs.now a.player a.stride a.profiles c.requires.table at) (steps c) (are c) S to from
 
-pub slice_bounds-mark_groups-end : goal.slice_bounds-mark_groups-end
-slice_bounds-mark_groups-end c = (listed (goal.at.slice_bounds-mark_groups-end c).After-put_steps-number).0
-
-pub slice_bounds-mark_groups-end-then-stride-lt-SIDE_BY_SIDE : goal.slice_bounds-mark_groups-end-then-stride-lt-SIDE_BY_SIDE
-slice_bounds-mark_groups-end-then-stride-lt-SIDE_BY_SIDE c = sym (listed (goal.at.slice_bounds-mark_groups-end-then-stride-lt-SIDE_BY_SIDE c).After-put_steps-number).1
-
 pub mark_groups-requires : goal.mark_groups-requires
 mark_groups-requires c =
     let a = c.args in
@@ -160,12 +145,6 @@ returns-then-stride-lt-SIDE_BY_SIDE c =
     player_rows a.counts.now a.payoffs.now a.survivors.now r.table a.player r.profiles_value.1 (blocks a.counts.now a.player a.stride a.profiles)
     (all_blocks a.counts.now a.payoffs.now a.player a.stride a.profiles r.table r.profiles_value) (steps p) (are p) _ n.0 n.1
     a.marks.now _ r.ready c.mark_groups.ensures
-
-pub slice_bounds-mark_groups-end-2 : goal.slice_bounds-mark_groups-end-2
-slice_bounds-mark_groups-end-2 c = (listed (goal.at.slice_bounds-mark_groups-end-2 c).After-put_steps-number).0
-
-pub slice_bounds-mark_groups-end-3 : goal.slice_bounds-mark_groups-end-3
-slice_bounds-mark_groups-end-3 c = sym (listed (goal.at.slice_bounds-mark_groups-end-3 c).After-put_steps-number).1
 
 pub mark_groups-requires-2 : goal.mark_groups-requires-2
 mark_groups-requires-2 c =

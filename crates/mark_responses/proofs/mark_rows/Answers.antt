@@ -4,17 +4,9 @@ use Prim.Native.Nat.{◌+◌, ◌*◌, ◌<◌, ◌≤◌}
 use native.Mathlib.Omega.{arith}
 use borrow.Author.Rules.{rules}
 use lib.ListN.{length}
-use Rattle.mark_responses.proofs.Rows.{rows_none, next_within, first_more, first_all}
+use Rattle.mark_responses.proofs.Rows.{next_within, first_more, first_all}
 use Rattle.mark_responses.proofs.mark_rows.Goals as goal
 use Rattle.mark_responses.proofs.mark_rows.Goals.{In-loop-i, Joined-i-number, else-i-number, then-i-number}
-
-pub loop-i-init : goal.loop-i-init
-loop-i-init c =
-    let a = c.args in
-    (omega arith, refl, rows_none a.payoffs.now a.steps.now _ a.marks.now (λ s (r, l, _, _). omega (arith, l)))
-
-pub overflow_add-i : goal.overflow_add-i
-overflow_add-i c = omega (arith, c.requires.payoffs_len_bound)
 
 -- a row at hand begins within the table
 inside : (c : In-loop-i) → let a = c.args in a.start + c.loop-i.i * a.gap < length a.payoffs.now
@@ -45,9 +37,6 @@ mark_pair-requires c =
       payoffs_in_bounds = omega (arith, l.invariant.1, r.payoffs_len_bound);
     }
 
-pub overflow_add-i-in-loop-i : goal.overflow_add-i-in-loop-i
-overflow_add-i-in-loop-i c = omega (arith, c.requires.payoffs_len_bound)
-
 pub loop-i-preserved : goal.loop-i-preserved
 loop-i-preserved c =
     let a = c.args in
@@ -63,3 +52,10 @@ returns c =
     let a = c.args in
     let l = c.loop-i in
     first_all a.payoffs.now a.steps.now a.start a.gap a.number l.i (omega arith) l.invariant.2
+
+pub returns-after-i-number : goal.returns-after-i-number
+returns-after-i-number c =
+    let a = c.args in
+    let l = c.loop-i in
+    first_all a.payoffs.now a.steps.now a.start a.gap a.number (l.i + 2) (omega arith)
+    (first_more a.payoffs.now a.steps.now a.start a.gap a.number l.i c.if-i-number.other c.loop-i-test.true (next (goal.at.returns-after-i-number c).Joined-i-number) l.invariant.2 c.mark_pair.ensures)

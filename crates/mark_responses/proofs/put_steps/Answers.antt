@@ -1,7 +1,6 @@
-use mathlib.Core.Path.{◌≡◌, refl, ◌∙◌}
+use mathlib.Core.Path.{refl, ◌∙◌}
 use mathlib.Core.List.{[], ◌∷◌}
 use Prim.Native.Nat.{ℕ, ◌*◌, ◌≤◌}
-use native.Mathlib.Nat.{mul-le-mul_right}
 use native.Mathlib.Omega.{arith}
 use lib.ListN.{length-set, length-append}
 use Rattle.mark_responses.specs.Sweep.{marked_of}
@@ -17,21 +16,8 @@ pub loop-t-init : goal.loop-t-init
 unfolding marked_of
 loop-t-init c = (omega arith, refl, refl, refl)
 
-pub overflow_mul-steps : goal.overflow_mul-steps
-overflow_mul-steps c =
-    let s = c in
-    let l = c.loop-t in
-    let most : l.t ≤ s.args.count = omega arith in
-    omega (arith, mul-le-mul_right s.args.step most)
-
-pub offset_bounds-steps-number : goal.offset_bounds-steps-number
-offset_bounds-steps-number c = omega (arith, few (goal.at.offset_bounds-steps-number c).At-loop-t)
-
 pub bounds-steps-number : goal.bounds-steps-number
 bounds-steps-number c = omega (arith, few (goal.at.bounds-steps-number c).At-loop-t, c.loop-t.invariant.1)
-
-pub overflow_add-number : goal.overflow_add-number
-overflow_add-number c = omega (arith, few (goal.at.overflow_add-number c).At-loop-t)
 
 pub loop-t-preserved : goal.loop-t-preserved
 loop-t-preserved c =
@@ -49,9 +35,3 @@ loop-t-preserved c =
           )
       | else-survivors-place w ↦ rw (w.steps-is, w.number-is, marked_no s.survivors.now s.place l.t w.if-survivors-place.false) (omega arith, l.invariant.1, l.invariant.2, l.invariant.3)
     ]
-
-pub returns : goal.returns
-returns c =
-    let l = c.loop-t in
-    let done : l.t ≡ c.args.count = omega arith in
-    rw (← done) record { value = l.invariant.2; steps_after = l.invariant.3 }

@@ -1,7 +1,7 @@
 use mathlib.Core.Path.{◌≡◌, sym, ap, ◌∙◌, subst}
 use mathlib.Core.List.{List}
 use Prim.Native.Nat.{ℕ, ◌+◌, ◌*◌, ◌-◌, ◌<◌}
-use native.Mathlib.Nat.{le_refl, sub-zero}
+use native.Mathlib.Nat.{sub-zero}
 use native.Mathlib.Omega.{arith}
 use lib.ListN.{length, get_or}
 use lib.Seq.{drop-length}
@@ -27,12 +27,11 @@ module _ {cs : List ℕ} {m : Marks} {p l at : ℕ} (shape : Shape cs) (some : 0
       (changed_up cs at (l - 1) 0 first stride turn.here f.inside turn.inside found (zero turn.inside) (omega arith))
 
 turn : (c : In-loop-q) → Down c.args.counts.now (c.loop-q.q - 1) c.loop-q.stride
-turn c = down c.args.counts.now c.loop-q.q c.loop-q.stride c.requires.shape c.loop-q-test.true c.loop-q.invariant.0 c.loop-q.invariant.1
+turn c = down c.args.counts.now c.loop-q.q c.loop-q.stride c.requires.shape c.loop-q-test.true (omega arith) c.loop-q.invariant.0
 
 pub loop-q-init : goal.loop-q-init
 loop-q-init c =
     let r = c.requires in (
-      le_refl _,
       sym (ap product (drop-length c.args.counts.now)),
       firsts_none _ _ _ 0 (shape_some r.shape),
       record { full = r.choices_len; each = λ i a b. absurd (omega arith) },
@@ -72,19 +71,16 @@ bounds-choices-q c = omega (arith, turn (goal.at.bounds-choices-q c).In-loop-q)
 
 pub overflow_mul-at : goal.overflow_mul-at
 overflow_mul-at c =
-    let s = set_first c.requires.shape c.loop-q-test.true c.loop-q.invariant.2 c.loop-q.stride c.next_mark-first.result (turn (goal.at.overflow_mul-at c).In-loop-q) (found (goal.at.overflow_mul-at c).Else-first-count) in
+    let s = set_first c.requires.shape c.loop-q-test.true c.loop-q.invariant.1 c.loop-q.stride c.next_mark-first.result (turn (goal.at.overflow_mul-at c).In-loop-q) (found (goal.at.overflow_mul-at c).Else-first-count) in
     omega (arith, s.inside, shape_room c.requires.shape)
 
 pub overflow_add-at : goal.overflow_add-at
 overflow_add-at c =
-    let s = set_first c.requires.shape c.loop-q-test.true c.loop-q.invariant.2 c.loop-q.stride c.next_mark-first.result (turn (goal.at.overflow_add-at c).In-loop-q) (found (goal.at.overflow_add-at c).Else-first-count) in
+    let s = set_first c.requires.shape c.loop-q-test.true c.loop-q.invariant.1 c.loop-q.stride c.next_mark-first.result (turn (goal.at.overflow_add-at c).In-loop-q) (found (goal.at.overflow_add-at c).Else-first-count) in
     omega (arith, s.inside, shape_room c.requires.shape)
 
 pub overflow_mul-stride : goal.overflow_mul-stride
 overflow_mul-stride c = omega (arith, turn (goal.at.overflow_mul-stride c).In-loop-q)
-
-pub loop-q-smaller : goal.loop-q-smaller
-loop-q-smaller c = omega (arith, c.loop-q-test)
 
 pub loop-q-preserved : goal.loop-q-preserved
 loop-q-preserved c =
@@ -100,20 +96,20 @@ loop-q-preserved c =
       | then-q-player+else-first-count w ↦
           let first : ℕ = w.next_mark-first.result in
           let here : first < get_or cs q 0 = omega (arith, w.next_mark-first.ensures.most, w.if-first-count.false) in
-          let set = set_first c.requires.shape some l.invariant.2 l.stride first d here in (
-            rw w.at-is (firsts_more cs m a.player some l.invariant.2 first _ set (first_mark cs a.marks.now a.player q w.if-q-player.true d.high w.next_mark-first.ensures here)),
-            rw (w.choices-is, w.at-is) (kept_set q l.invariant.3 set (omega (arith, d)) (λ j a b. omega arith)),
+          let set = set_first c.requires.shape some l.invariant.1 l.stride first d here in (
+            rw w.at-is (firsts_more cs m a.player some l.invariant.1 first _ set (first_mark cs a.marks.now a.player q w.if-q-player.true d.high w.next_mark-first.ensures here)),
+            rw (w.choices-is, w.at-is) (kept_set q l.invariant.2 set (omega (arith, d)) (λ j a b. omega arith)),
           )
       | else-q-player w ↦ (
-        rw w.at-is (firsts_keep cs m a.player some l.invariant.2 (own_first cs m a.player q (chosen cs l.at q) w.if-q-player.false (zero c.requires.shape some l.invariant.2 d.inside))),
-        rw (w.choices-is, w.at-is) (record { full = l.invariant.3.full; each = λ j a b d. l.invariant.3.each j (omega (arith, w.if-q-player.false)) b d }),
+        rw w.at-is (firsts_keep cs m a.player some l.invariant.1 (own_first cs m a.player q (chosen cs l.at q) w.if-q-player.false (zero c.requires.shape some l.invariant.1 d.inside))),
+        rw (w.choices-is, w.at-is) (record { full = l.invariant.2.full; each = λ j a b d. l.invariant.2.each j (omega (arith, w.if-q-player.false)) b d }),
       )
     ] in
-    (omega (arith, d), d.next, both.0, both.1)
+    (d.next, both.0, both.1)
 
 pub returns : goal.returns
 returns c =
     let l = c.loop-q in record {
-      next_row = first_row _ _ _ c.requires.player_in_bounds c.loop-q-test.false l.invariant.2;
-      kept = λ h. record { full = l.invariant.3.full; each = λ i a. l.invariant.3.each i (omega (arith, c.loop-q-test)) };
+      next_row = first_row _ _ _ c.requires.player_in_bounds c.loop-q-test.false l.invariant.1;
+      kept = λ h. record { full = l.invariant.2.full; each = λ i a. l.invariant.2.each i (omega (arith, c.loop-q-test)) };
     }

@@ -3,7 +3,6 @@ use mathlib.Core.Bool.{Bool}
 use mathlib.Core.List.{List}
 use mathlib.Core.Logic.{◌≢◌}
 use Prim.Native.Nat.{ℕ, ◌+◌, ◌*◌, ◌-◌, ◌<◌, ◌≤◌}
-use native.Mathlib.Nat.{le_refl}
 use native.Mathlib.Omega.{arith}
 use lib.ListN.{get_or}
 use lib.Seq.{drop-length}
@@ -55,13 +54,12 @@ found {cs} {choices} ms {p} {base} {l} some row firsts kept turn other k =
     (rw e (row_fits cs (marked ms) p row (l - 1) turn.inside))
 
 turn : (c : In-loop-q) → Down c.args.counts.now (c.loop-q.q - 1) c.loop-q.stride
-turn c = down c.args.counts.now c.loop-q.q c.loop-q.stride c.requires.shape c.loop-q-test.true c.loop-q.invariant.0 c.loop-q.invariant.1
+turn c = down c.args.counts.now c.loop-q.q c.loop-q.stride c.requires.shape c.loop-q-test.true (omega arith) c.loop-q.invariant.0
 
 pub loop-q-init : goal.loop-q-init
 loop-q-init c =
     let a = c.args in
     let r = c.requires in (
-      le_refl _,
       sym (ap product (drop-length a.counts.now)),
       firsts_none _ _ _ _ r.marked_row.inside,
       lasts_none a.counts.now (marked a.marks.now) a.player a.base,
@@ -82,7 +80,7 @@ overflow_add-choice c =
     let l = c.loop-q in
     let d = turn (goal.at.overflow_add-choice c).In-loop-q in
     let row = c.requires.marked_row in
-    omega (arith, is c.loop-q-test.true row l.invariant.2 l.invariant.4 d c.if-q-player.true, low c.loop-q-test.true row l.invariant.2 l.invariant.4 d, d)
+    omega (arith, is c.loop-q-test.true row l.invariant.1 l.invariant.3 d c.if-q-player.true, low c.loop-q-test.true row l.invariant.1 l.invariant.3 d, d)
 
 pub next_mark-next-requires : goal.next_mark-next-requires
 next_mark-next-requires c =
@@ -90,7 +88,7 @@ next_mark-next-requires c =
     let d = turn (goal.at.next_mark-next-requires c).In-loop-q in
     let row = c.requires.marked_row in
     record {
-      from_le_count = omega (arith, is c.loop-q-test.true row l.invariant.2 l.invariant.4 d c.if-q-player.true, low c.loop-q-test.true row l.invariant.2 l.invariant.4 d);
+      from_le_count = omega (arith, is c.loop-q-test.true row l.invariant.1 l.invariant.3 d c.if-q-player.true, low c.loop-q-test.true row l.invariant.1 l.invariant.3 d);
       count_in_bounds = rw c.requires.marks_len (omega (arith, d));
     }
 
@@ -108,14 +106,14 @@ pub overflow_mul-result : goal.overflow_mul-result
 overflow_mul-result c =
     let l = c.loop-q in
     let d = turn (goal.at.overflow_mul-result c).In-loop-q in
-    let moved = up c.loop-q-test.true c.requires.marked_row l.invariant.2 l.invariant.4 d c.if-q-player.true c.next_mark-next.result c.if-next-count.true (omega (arith, c.next_mark-next.ensures.least)) in
+    let moved = up c.loop-q-test.true c.requires.marked_row l.invariant.1 l.invariant.3 d c.if-q-player.true c.next_mark-next.result c.if-next-count.true (omega (arith, c.next_mark-next.ensures.least)) in
     omega (arith, moved.inside, shape_room c.requires.shape)
 
 pub overflow_add-result : goal.overflow_add-result
 overflow_add-result c =
     let l = c.loop-q in
     let d = turn (goal.at.overflow_add-result c).In-loop-q in
-    let moved = up c.loop-q-test.true c.requires.marked_row l.invariant.2 l.invariant.4 d c.if-q-player.true c.next_mark-next.result c.if-next-count.true (omega (arith, c.next_mark-next.ensures.least)) in
+    let moved = up c.loop-q-test.true c.requires.marked_row l.invariant.1 l.invariant.3 d c.if-q-player.true c.next_mark-next.result c.if-next-count.true (omega (arith, c.next_mark-next.ensures.least)) in
     omega (arith, moved.inside, shape_room c.requires.shape)
 
 pub returns-then-next-count : goal.returns-then-next-count
@@ -129,14 +127,14 @@ returns-then-next-count c =
     let some = c.loop-q-test.true in
     let other = c.if-q-player.true in
     let d = turn (goal.at.returns-then-next-count c).In-loop-q in
-    let e = is some row l.invariant.2 l.invariant.4 d other in
+    let e = is some row l.invariant.1 l.invariant.3 d other in
     let k = c.next_mark-next.ensures in
     let above : get_or l.choices q 0 < c.next_mark-next.result = omega (arith, k.least) in
-    let moved = up some row l.invariant.2 l.invariant.4 d other c.next_mark-next.result c.if-next-count.true (omega (arith, above)) in record {
-      next_row = next_row cs m a.player row some l.invariant.0 c.requires.player_in_bounds l.invariant.2 l.invariant.3 moved
+    let moved = up some row l.invariant.1 l.invariant.3 d other c.next_mark-next.result c.if-next-count.true (omega (arith, above)) in record {
+      next_row = next_row cs m a.player row some (omega arith) c.requires.player_in_bounds l.invariant.1 l.invariant.2 moved
           (mark_fits cs a.marks.now a.player q other d.high k c.if-next-count.true) (omega (arith, above))
           (λ v l h. mark_none cs a.marks.now a.player q other d.high k v (omega arith) h);
-      kept_2 = λ h. kept_set 0 l.invariant.4 moved (omega (arith, d)) (λ j a b. a);
+      kept_2 = λ h. kept_set 0 l.invariant.3 moved (omega (arith, d)) (λ j a b. a);
     }
 
 pub next_mark-first-requires : goal.next_mark-first-requires
@@ -148,7 +146,7 @@ pub overflow_cast-choices-then-q-player : goal.overflow_cast-choices-then-q-play
 overflow_cast-choices-then-q-player c =
     let l = c.loop-q in
     let d = turn (goal.at.overflow_cast-choices-then-q-player c).In-loop-q in
-    omega (arith, found c.args.marks.now c.loop-q-test.true c.requires.marked_row l.invariant.2 l.invariant.4 d c.if-q-player.true c.next_mark-first.ensures, d)
+    omega (arith, found c.args.marks.now c.loop-q-test.true c.requires.marked_row l.invariant.1 l.invariant.3 d c.if-q-player.true c.next_mark-first.ensures, d)
 
 pub bounds-choices-q-then-q-player : goal.bounds-choices-q-then-q-player
 bounds-choices-q-then-q-player c = omega (arith, turn (goal.at.bounds-choices-q-then-q-player c).In-loop-q)
@@ -157,29 +155,26 @@ pub overflow_sub-at : goal.overflow_sub-at
 overflow_sub-at c =
     let l = c.loop-q in
     let d = turn (goal.at.overflow_sub-at c).In-loop-q in
-    (found c.args.marks.now c.loop-q-test.true c.requires.marked_row l.invariant.2 l.invariant.4 d c.if-q-player.true c.next_mark-first.ensures).1
+    (found c.args.marks.now c.loop-q-test.true c.requires.marked_row l.invariant.1 l.invariant.3 d c.if-q-player.true c.next_mark-first.ensures).1
 
 pub overflow_mul-at : goal.overflow_mul-at
 overflow_mul-at c =
     let l = c.loop-q in
     let d = turn (goal.at.overflow_mul-at c).In-loop-q in
     let row = c.requires.marked_row in
-    let f = found c.args.marks.now c.loop-q-test.true row l.invariant.2 l.invariant.4 d c.if-q-player.true c.next_mark-first.ensures in
-    omega (arith, down-room c.loop-q-test.true row l.invariant.2 l.invariant.4 d c.if-q-player.true c.next_mark-first.result f.0 f.1, l.invariant.2.inside, shape_room c.requires.shape)
+    let f = found c.args.marks.now c.loop-q-test.true row l.invariant.1 l.invariant.3 d c.if-q-player.true c.next_mark-first.ensures in
+    omega (arith, down-room c.loop-q-test.true row l.invariant.1 l.invariant.3 d c.if-q-player.true c.next_mark-first.result f.0 f.1, l.invariant.1.inside, shape_room c.requires.shape)
 
 pub overflow_sub-at-then-q-player : goal.overflow_sub-at-then-q-player
 overflow_sub-at-then-q-player c =
     let l = c.loop-q in
     let d = turn (goal.at.overflow_sub-at-then-q-player c).In-loop-q in
     let row = c.requires.marked_row in
-    let f = found c.args.marks.now c.loop-q-test.true row l.invariant.2 l.invariant.4 d c.if-q-player.true c.next_mark-first.ensures in
-    down-room c.loop-q-test.true row l.invariant.2 l.invariant.4 d c.if-q-player.true c.next_mark-first.result f.0 f.1
+    let f = found c.args.marks.now c.loop-q-test.true row l.invariant.1 l.invariant.3 d c.if-q-player.true c.next_mark-first.ensures in
+    down-room c.loop-q-test.true row l.invariant.1 l.invariant.3 d c.if-q-player.true c.next_mark-first.result f.0 f.1
 
 pub overflow_mul-stride : goal.overflow_mul-stride
 overflow_mul-stride c = omega (arith, turn (goal.at.overflow_mul-stride c).In-loop-q)
-
-pub loop-q-smaller : goal.loop-q-smaller
-loop-q-smaller c = omega (arith, c.loop-q-test)
 
 pub loop-q-preserved : goal.loop-q-preserved
 loop-q-preserved c =
@@ -196,26 +191,26 @@ loop-q-preserved c =
       | then-q-player+else-next-count w ↦
           let other = w.if-q-player.true in
           let k = w.next_mark-first.ensures in
-          let e = is some row l.invariant.2 l.invariant.4 d other in
-          let f = found a.marks.now some row l.invariant.2 l.invariant.4 d other k in
-          let restarted = back some row l.invariant.2 l.invariant.4 d other w.next_mark-first.result f.0 f.1 in (
-            rw w.at-is (firsts_more cs m a.player some l.invariant.2 w.next_mark-first.result _ restarted (first_mark cs a.marks.now a.player q other d.high k f.0)),
-            lasts_more cs m a.player a.base l.q some l.invariant.3
+          let e = is some row l.invariant.1 l.invariant.3 d other in
+          let f = found a.marks.now some row l.invariant.1 l.invariant.3 d other k in
+          let restarted = back some row l.invariant.1 l.invariant.3 d other w.next_mark-first.result f.0 f.1 in (
+            rw w.at-is (firsts_more cs m a.player some l.invariant.1 w.next_mark-first.result _ restarted (first_mark cs a.marks.now a.player q other d.high k f.0)),
+            lasts_more cs m a.player a.base l.q some l.invariant.2
                 (λ v a' b. mark_none cs a.marks.now a.player q other d.high w.next_mark-next.ensures v (omega (arith, e)) (omega (arith, w.if-next-count.false))),
-            rw (w.choices-is, w.at-is) (kept_set 0 l.invariant.4 restarted (omega (arith, d)) (λ j a b. a)),
+            rw (w.choices-is, w.at-is) (kept_set 0 l.invariant.3 restarted (omega (arith, d)) (λ j a b. a)),
           )
       | else-q-player w ↦ (
-        rw w.at-is (firsts_keep cs m a.player some l.invariant.2 (own_first cs m a.player q (chosen cs l.at q) w.if-q-player.false (same some row l.invariant.2 l.invariant.4 d ∙ rw w.if-q-player.false row.own))),
-        lasts_more cs m a.player a.base l.q some l.invariant.3 (own_last cs m a.player q _ _ w.if-q-player.false),
-        rw (w.choices-is, w.at-is) l.invariant.4,
+        rw w.at-is (firsts_keep cs m a.player some l.invariant.1 (own_first cs m a.player q (chosen cs l.at q) w.if-q-player.false (same some row l.invariant.1 l.invariant.3 d ∙ rw w.if-q-player.false row.own))),
+        lasts_more cs m a.player a.base l.q some l.invariant.2 (own_last cs m a.player q _ _ w.if-q-player.false),
+        rw (w.choices-is, w.at-is) l.invariant.3,
       )
     ] in
-    (omega (arith, d), d.next, all.0, all.1, all.2)
+    (d.next, all.0, all.1, all.2)
 
 pub returns : goal.returns
 returns c =
     let a = c.args in
     let l = c.loop-q in record {
-      next_row = rw c.requires.profiles_value (last_row a.counts.now (marked a.marks.now) a.player c.requires.marked_row l.q c.loop-q-test.false l.invariant.3);
+      next_row = rw c.requires.profiles_value (last_row a.counts.now (marked a.marks.now) a.player c.requires.marked_row l.q c.loop-q-test.false l.invariant.2);
       kept_2 = λ h. absurd (omega (arith, c.requires.profiles_value));
     }

@@ -2,8 +2,7 @@
 -- first, before q the two agree, and `choices` keeps those of `at`; what is multiplied so far is the product of the counts from q on.
 -- Assumes nothing.
 use mathlib.Core.Path.{◌≡◌}
-use Prim.Native.Nat.{◌≤◌}
-use lib.ListN.{length, drop}
+use lib.ListN.{drop}
 use Rattle.game.specs.Finite.{product}
 use Rattle.marks.specs.Marks.{marked}
 use Rattle.marked_rows.specs.Rows.{Kept}
@@ -12,11 +11,7 @@ use Rattle.marked_rows.proofs.next_row.Given as goal
 
 abbrev pub invariant-loop-q : goal.invariant-loop-q
 invariant-loop-q l =
-    (l.q ≤ length l.counts)
-    × (l.stride ≡ product (drop l.q l.counts))
+    (l.stride ≡ product (drop l.q l.counts))
     × Firsts l.counts (marked l.marks) l.player l.base l.q l.at
     × Lasts l.counts (marked l.marks) l.player l.base l.q
     × Kept l.counts l.player 0 l.choices l.at
-
-abbrev pub decreases-loop-q : goal.decreases-loop-q
-decreases-loop-q l = l.q

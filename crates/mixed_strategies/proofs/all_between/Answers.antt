@@ -1,44 +1,30 @@
-use mathlib.Core.Path.{◌≡◌, refl, sym, ap, ◌∙◌}
-use mathlib.Core.Bool.{Bool, true, false, not, ◌&&◌}
-use Prim.Native.Nat.{ℕ, zero-le}
+use mathlib.Core.Path.{◌≡◌, sym, ap, ◌∙◌}
+use Prim.Native.Nat.{ℕ}
+use mathlib.Core.Bool.{Bool, not, ◌&&◌}
 use native.Mathlib.Omega.{arith}
-use borrow.Author.Rules.{rules}
-use lib.Ieee.{nan, lt}
-use lib.ListN.{get_or}
+use lib.Ieee.{Float, nan, lt}
+use lib.ListN.{length, take, get_or}
+use lib.Seq.{length-take-le, get_or-take}
 use Rattle.game.specs.Finite.{all, below}
-use Rattle.payoff_order.specs.Order.{finite}
 use Rattle.payoff_order.proofs.All.{all_below}
 use Rattle.mixed_strategies.specs.Inner.{between}
 use Rattle.mixed_strategies.proofs.all_between.Goals as goal
 
-pub loop-t-init : goal.loop-t-init
-loop-t-init c = (zero-le, refl)
-
-pub bounds-values-t : goal.bounds-values-t
-bounds-values-t c = omega (arith, c.requires)
-
-regroup : (a b c d : Bool) → (a && b && c && d) ≡ (a && (b && c && d))
-regroup true b c d = refl
-regroup false b c d = refl
-
-pub loop-t-preserved : goal.loop-t-preserved
-loop-t-preserved c =
-    let k = c in
-    let a = k.args in
-    let t = k.loop-t.t in
-    let x = get_or a.values.now t nan in
-    let ok = k.loop-t.ok in
-    let low : Bool = not (lt x a.low) in
-    let high : Bool = not (lt a.high x) in (
-      search rules,
-      ap (λ (b : Bool). ok && b && low && high) c.is_finite.ensures
-          ∙ regroup ok (finite x) low high
-          ∙ ap (λ (b : Bool). b && between a.low a.high x) k.loop-t.invariant.1
-          ∙ sym (all_below (λ s. between a.low a.high (get_or a.values.now s nan)) t),
-    )
+pub loop-x-preserved : goal.loop-x-preserved
+loop-x-preserved c =
+    let a = c.args in
+    let i = c.loop-x.x-index in
+    let x = get_or (take a.count a.values.now) i nan in
+    let n : length (take a.count a.values.now) ≡ a.count = length-take-le a.count a.values.now c.requires in
+    let same : x ≡ get_or a.values.now i nan = get_or-take a.count a.values.now i nan (omega (arith, n, c.loop-x-test.true)) in
+    ap (λ (b : Bool). c.loop-x.ok && (b && not (lt x a.low) && not (lt a.high x))) c.is_finite.ensures
+    ∙ ap (λ (b : Bool). b && between a.low a.high x) c.loop-x.invariant
+    ∙ ap (λ (y : Float). all (λ s. between a.low a.high (get_or a.values.now s nan)) (below i) && between a.low a.high y) same
+    ∙ sym (all_below (λ s. between a.low a.high (get_or a.values.now s nan)) i)
 
 pub returns : goal.returns
 returns c =
     let a = c.args in
-    let e : c.loop-t.t ≡ a.count = omega (arith, c.loop-t.invariant.0, c.loop-t-test.false) in
-    c.loop-t.invariant.1 ∙ ap (λ (n : ℕ). all (λ s. between a.low a.high (get_or a.values.now s nan)) (below n)) e
+    let n : length (take a.count a.values.now) ≡ a.count = length-take-le a.count a.values.now c.requires in
+    let e : c.loop-x.x-index ≡ a.count = omega (arith, n, c.loop-x.auto.x-index-end, c.loop-x-test.false) in
+    c.loop-x.invariant ∙ ap (λ (n : ℕ). all (λ s. between a.low a.high (get_or a.values.now s nan)) (below n)) e

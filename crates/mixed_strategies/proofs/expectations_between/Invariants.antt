@@ -1,6 +1,5 @@
--- `mixed_strategies::expectations_between` meets its contract. The loop's invariant: the expectations stand side by side, summed over the others'
--- choices passed. The measure is what is left of them. Assumes nothing.
-use Prim.Native.Nat.{◌≤◌, ◌-◌}
+-- `mixed_strategies::expectations_between` meets its contract. The loop's invariant: the
+-- expectations stand side by side, summed over the others' choices passed. Assumes nothing.
 use lib.Ieee.{nan}
 use lib.ListN.{get_or}
 use Rattle.game.specs.Finite.{below}
@@ -10,7 +9,4 @@ use Rattle.candidate_input.specs.Input.{max_actions}
 use Rattle.mixed_strategies.proofs.expectations_between.Given as goal
 
 abbrev pub invariant-loop-o : goal.invariant-loop-o
-invariant-loop-o l = (l.o ≤ l.others) × SideBySide max_actions l.count (λ i. get_or l.vector i nan) (strided l.payoffs l.own l.other) (below l.o) l.sums
-
-abbrev pub decreases-loop-o : goal.decreases-loop-o
-decreases-loop-o l = l.others - l.o
+invariant-loop-o l = SideBySide max_actions l.count (λ i. get_or l.vector i nan) (strided l.payoffs l.own l.other) (below l.o) l.sums

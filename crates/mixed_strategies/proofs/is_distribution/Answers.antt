@@ -1,4 +1,5 @@
--- `mixed_strategies::is_distribution` meets its contract: the tests are those of `distribution`. Assumes nothing.
+-- `mixed_strategies::is_distribution` meets its contract: the tests are those of `distribution`.
+-- Assumes nothing.
 use mathlib.Core.Path.{◌≡◌, sym, ap₂, ◌∙◌}
 use mathlib.Core.Bool.{Bool, true, false, not, ◌&&◌}
 use mathlib.Core.List.{List}

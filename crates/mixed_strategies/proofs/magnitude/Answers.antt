@@ -1,4 +1,5 @@
--- `mixed_strategies::magnitude` meets its contract: below 0 the negation is the distance, and else nothing tells the two apart. Assumes nothing.
+-- `mixed_strategies::magnitude` meets its contract: below 0 the negation is the distance, and else
+-- nothing tells the two apart. Assumes nothing.
 use mathlib.Core.Path.{ap}
 use lib.Ieee.{lt}
 use Rattle.sums.proofs.Floats.{far_below, far_above}

@@ -1,4 +1,5 @@
--- `mixed_strategies::sums_to_one` meets its contract: the distance of the sum from 1.0 is compared as `distance` is. Assumes nothing.
+-- `mixed_strategies::sums_to_one` meets its contract: the distance of the sum from 1.0 is compared
+-- as `distance` is. Assumes nothing.
 use mathlib.Core.Path.{ap, ◌∙◌}
 use mathlib.Core.Bool.{not}
 use lib.Ieee.{Float, binary64, sub, lt}

@@ -68,16 +68,16 @@ module _ (c : At-loop-k) where
       )
 
   -- where there is room for one more, it is held
-  held_more : c.loop-k.written * length counts + length counts ≤ c.lesser-room.result → c.loop-k.written < held
+  held_more : c.loop-k.written * length counts + length counts ≤ c.min-room.result → c.loop-k.written < held
   held_more h =
       let next = suc-mul c.loop-k.written (length counts) in
-      (held-law-here (suc c.loop-k.written)).1 (omega (arith, next, h, c.lesser-room.ensures), omega (arith, next, h, c.lesser-room.ensures))
+      (held-law-here (suc c.loop-k.written)).1 (omega (arith, next, h, c.min-room.ensures), omega (arith, next, h, c.min-room.ensures))
 
   -- and else all that are held are written
-  held-full : c.lesser-room.result < c.loop-k.written * length counts + length counts → held ≤ c.loop-k.written
+  held-full : c.min-room.result < c.loop-k.written * length counts + length counts → held ≤ c.loop-k.written
   held-full h =
       at_most held c.loop-k.written
-      (λ more. let room = (held-law-here (suc c.loop-k.written)).0 more in omega (arith, suc-mul c.loop-k.written (length counts), room, h, c.lesser-room.ensures))
+      (λ more. let room = (held-law-here (suc c.loop-k.written)).0 more in omega (arith, suc-mul c.loop-k.written (length counts), room, h, c.min-room.ensures))
 
 -- the profile of a turn
 module _ (i : In-loop-k) where
@@ -131,7 +131,7 @@ put_entry-requires c =
     record {
       table = c.requires.table;
       k_bound = inside i;
-      counts_in_bounds = (omega (arith, c.if-at-players.true, c.lesser-room.ensures, long), omega (arith, c.if-at-players.true, c.lesser-room.ensures, long));
+      counts_in_bounds = (omega (arith, c.if-at-players.true, c.min-room.ensures, long), omega (arith, c.if-at-players.true, c.min-room.ensures, long));
       before = λ e. subst⁻¹ (λ (m : ℕ). Before c.args.counts.now m c.loop-k.choices (c.loop-k.written * n i)) e (c.loop-k.invariant.6 (omega (arith, sym e, c.loop-k-test.true)));
     }
 
@@ -143,9 +143,6 @@ overflow_add-written c = omega (arith, few (goal.at.overflow_add-written c).In-l
 
 pub overflow_add-total : goal.overflow_add-total
 overflow_add-total c = omega (arith, few (goal.at.overflow_add-total c).In-loop-k, c.loop-k.invariant.1)
-
-pub overflow_add-k : goal.overflow_add-k
-overflow_add-k c = omega (arith, few (goal.at.overflow_add-k c).In-loop-k)
 
 pub loop-k-preserved : goal.loop-k-preserved
 loop-k-preserved c =
@@ -175,7 +172,7 @@ loop-k-preserved c =
                   rw (utilities, total) (listing_yes _ _ _ (length cs) _ _ l.utilities l.total l.k l.invariant.4 here is _ less (part_length_lem r c.args.payoffs.now c.requires.table.full) (rw same at v.put_entry.ensures.utilities_after)),
                   omega (arith, after, c.loop-k-test.true),
                   λ _. moved cs _ _ _ _ _ _ after choices written
-                      (entry_before cs l.choices _ l.k l.written r.each (omega (arith, v.if-at-players.true, c.lesser-room.ensures, lengths at)) v.put_entry.ensures.choices_after),
+                      (entry_before cs l.choices _ l.k l.written r.each (omega (arith, v.if-at-players.true, c.min-room.ensures, lengths at)) v.put_entry.ensures.choices_after),
                 )
             | else-at-players v ↦
                 let full : held at ≤ l.total = omega (arith, l.invariant.2, held-full at v.if-at-players.false) in

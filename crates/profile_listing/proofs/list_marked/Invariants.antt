@@ -1,7 +1,7 @@
 -- `profile_listing::list_marked` meets its contract: in both outputs those before the k-th profile are written, as far as there is room, and
 -- the rest is as it was (`Listing`); and the last entry is that of the profile before `after`, or `after` is past all profiles. Assumes nothing.
 use mathlib.Core.Path.{◌≡◌}
-use Prim.Native.Nat.{ℕ, ◌*◌, ◌-◌, min, ◌≤◌, ◌<◌}
+use Prim.Native.Nat.{ℕ, ◌*◌, min, ◌≤◌, ◌<◌}
 use lib.ListN.{length}
 use Rattle.game.specs.Game.{profiles}
 use Rattle.written_lists.specs.Listing.{entries_held}
@@ -21,6 +21,3 @@ invariant-loop-k l =
     × Listing (profile_part l.counts l.payoffs) (all_marked l.counts l.marks) (profiles l.counts) (length l.counts) held l.initial.utilities l.utilities l.total l.k
     × (l.after ≤ l.profiles)
     × (l.after < l.profiles → Before l.counts l.after l.choices (l.written * length l.counts))
-
-abbrev pub decreases-loop-k : goal.decreases-loop-k
-decreases-loop-k l = l.profiles - l.k

@@ -11,6 +11,3 @@ use Rattle.profile_listing.proofs.put_choices.Given as goal
 
 abbrev pub invariant-loop-p : goal.invariant-loop-p
 invariant-loop-p l = (l.p ≤ length l.counts) × (l.rest ≡ l.k / product (drop l.p l.counts)) × (l.choices ≡ filled (get_or (profiles l.counts) l.k []) l.initial.choices (length l.counts) l.at l.p)
-
-abbrev pub decreases-loop-p : goal.decreases-loop-p
-decreases-loop-p l = l.p

@@ -15,6 +15,3 @@ invariant-loop-p l =
     (l.p ≤ length l.counts)
     × (l.up ≡ not (step (drop l.p l.counts) (drop l.p (get_or (profiles l.counts) (l.k - 1) []))).more)
     × (l.choices ≡ filled (get_or (profiles l.counts) l.k []) l.initial.choices (length l.counts) l.at l.p)
-
-abbrev pub decreases-loop-p : goal.decreases-loop-p
-decreases-loop-p l = l.p

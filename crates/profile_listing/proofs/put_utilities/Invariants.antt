@@ -11,6 +11,3 @@ use Rattle.profile_listing.proofs.put_utilities.Given as goal
 
 abbrev pub invariant-loop-p : goal.invariant-loop-p
 invariant-loop-p l = (l.p ≤ length l.counts) × (l.utilities ≡ filled (profile_part l.counts l.payoffs (get_or (profiles l.counts) l.k [])) l.initial.utilities (length l.counts) l.at l.p)
-
-abbrev pub decreases-loop-p : goal.decreases-loop-p
-decreases-loop-p l = l.p

@@ -9,6 +9,3 @@ use Rattle.profile_step.proofs.advance_profile.Given as goal
 
 abbrev pub invariant-loop-p : goal.invariant-loop-p
 invariant-loop-p l = (l.p ≤ length l.counts) × (l.p ≤ max_players) × (length l.next ≡ max_players) × (step l.counts l.initial.next ≡ step (take l.p l.counts) l.next)
-
-abbrev pub decreases-loop-p : goal.decreases-loop-p
-decreases-loop-p l = l.p

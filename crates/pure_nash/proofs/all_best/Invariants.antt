@@ -17,6 +17,3 @@ invariant-loop-p l =
     (l.p ≤ length l.counts)
     × (l.stride ≡ product (drop l.p l.counts))
     × ((q : ℕ) → l.p ≤ q → q < length l.counts → T (settled (table_game l.counts l.payoffs) (marked l.survivors) (get_or (profiles l.counts) l.k []) q))
-
-abbrev pub decreases-loop-p : goal.decreases-loop-p
-decreases-loop-p l = l.p

@@ -14,7 +14,7 @@ use Rattle.game.proofs.Solution.{equilibrium_each}
 use Rattle.refusal.specs.Refusal.{Refusal, ◌then◌}
 use Rattle.refusal.specs.Told.{values, unless}
 use Rattle.refusal.proofs.Refusal.{then_none}
-use Rattle.refusal.proofs.Told.{told_values, refused_again}
+use Rattle.refusal.proofs.Told.{told_values, hands_on_last}
 use Rattle.payoff_tables.specs.Limits.{max_marks}
 use Rattle.payoff_tables.specs.Table.{offset, table_game}
 use Rattle.payoff_tables.specs.Meaning.{Table}
@@ -44,21 +44,19 @@ checked counts payoffs x k h =
 pub all_best-requires : goal.all_best-requires
 all_best-requires c =
     let a = c.args in
-    let f = checked a.counts.now a.payoffs.now a.profile.now c.in-Ok.k c.in-Ok.ensures in
+    let f = checked a.counts.now a.payoffs.now a.profile.now c.in_ok-k.k c.in_ok-k.ensures in
     record { table = f.table; survivors_len = refl; k_bound = rw f.is (offset_below f.profile) }
 
-pub returns-in-Err : goal.returns-in-Err
+pub returns-in_err-k : goal.returns-in_err-k
 unfolding is_equilibrium_answer
-returns-in-Err c =
-    let a = c.args in
-    refused_again (table_refusal a.counts.now a.payoffs.now then profile_refusal a.counts.now a.profile.now) _ _ _ c.in-Err.ensures
+returns-in_err-k c = hands_on_last _ _ (table_refusal c.args.counts.now c.args.payoffs.now then profile_refusal c.args.counts.now c.args.profile.now) _ _ c.from_residual.ensures.1 c.in_err-k.ensures
 
-pub returns-in-Ok : goal.returns-in-Ok
+pub returns : goal.returns
 unfolding is_equilibrium_answer settled table_game
-returns-in-Ok c =
+returns c =
     let s = c.args in
-    let k : ℕ = c.in-Ok.k in
-    let f = checked s.counts.now s.payoffs.now s.profile.now k c.in-Ok.ensures in
+    let k : ℕ = c.in_ok-k.k in
+    let f = checked s.counts.now s.payoffs.now s.profile.now k c.in_ok-k.ensures in
     let g = table_game s.counts.now s.payoffs.now in
     let inside : k < product s.counts.now = rw f.is (offset_below f.profile) in
     let here : get_or (profiles s.counts.now) k [] ≡ s.profile.now = ap (λ (n : ℕ). get_or (profiles s.counts.now) n []) f.is ∙ nth_offset f.profile in

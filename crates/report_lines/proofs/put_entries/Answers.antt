@@ -7,7 +7,7 @@ use lib.ListN.{length, take, drop}
 use lib.Ieee.{Float, nan}
 use Rattle.game.specs.Finite.{below}
 use Rattle.payoff_order.specs.Order.{finite}
-use Rattle.outputs.proofs.Put.{puts_none, puts_more, puts_same}
+use Rattle.outputs.proofs.Puts.{puts_none, puts_more, puts_same}
 use Rattle.report_layout.specs.Lines.{entry_line, part, entry_lines}
 use Rattle.report_lines.proofs.Lines.{flat_next, entry_within, part_length_lem, part_at}
 use Rattle.report_lines.proofs.put_entries.Goals as goal
@@ -17,19 +17,7 @@ lines_before choices utilities n i = flat_map (λ j. entry_line (part n choices 
 
 pub loop-i-init : goal.loop-i-init
 unfolding flat_map
-loop-i-init c = (omega arith, puts_none c.args.out.now c.args.at c.within-place.ensures)
-
-pub overflow_mul-from : goal.overflow_mul-from
-overflow_mul-from c = omega (arith, entry_within c.loop-i.i c.args.number c.args.players (length c.args.choices.now) c.loop-i-test.true c.requires.players_in_bounds.0)
-
-pub overflow_add-to : goal.overflow_add-to
-overflow_add-to c = omega (arith, entry_within c.loop-i.i c.args.number c.args.players (length c.args.choices.now) c.loop-i-test.true c.requires.players_in_bounds.0)
-
-pub slice_bounds-put_entry-end : goal.slice_bounds-put_entry-end
-slice_bounds-put_entry-end c = entry_within c.loop-i.i c.args.number c.args.players (length c.args.choices.now) c.loop-i-test.true c.requires.players_in_bounds.0
-
-pub slice_bounds-put_entry-end-in-loop-i : goal.slice_bounds-put_entry-end-in-loop-i
-slice_bounds-put_entry-end-in-loop-i c = entry_within c.loop-i.i c.args.number c.args.players (length c.args.utilities.now) c.loop-i-test.true c.requires.players_in_bounds.1
+loop-i-init c = puts_none c.args.out.now c.args.at c.within-place.ensures
 
 pub put_entry-place-requires : goal.put_entry-place-requires
 put_entry-place-requires c =
@@ -57,11 +45,9 @@ loop-i-preserved c =
     let n = a.players in
     let d = c.put_entry-place.ensures in
     let e : i * n + n - i * n ≡ n = omega arith in
-    let one = puts_same l.out l.place (ap (λ (k : ℕ). entry_line (take k (drop (i * n) a.choices.now)) (take k (drop (i * n) a.utilities.now))) e) (d.value, d.out_after) in (
-      omega arith,
-      puts_same a.out.now a.at (flat_next (λ j. entry_line (part n a.choices.now j) (part n a.utilities.now j)) i)
-          (puts_more a.out.now a.at (lines_before a.choices.now a.utilities.now n i) (entry_line (part n a.choices.now i) (part n a.utilities.now i)) l.invariant.1 one),
-    )
+    let one = puts_same l.out l.place (ap (λ (k : ℕ). entry_line (take k (drop (i * n) a.choices.now)) (take k (drop (i * n) a.utilities.now))) e) (d.value, d.out_after) in
+    puts_same a.out.now a.at (flat_next (λ j. entry_line (part n a.choices.now j) (part n a.utilities.now j)) i)
+    (puts_more a.out.now a.at (lines_before a.choices.now a.utilities.now n i) (entry_line (part n a.choices.now i) (part n a.utilities.now i)) l.invariant one)
 
 pub returns : goal.returns
 unfolding entry_lines
@@ -69,5 +55,5 @@ returns c =
     let l = c.loop-i in
     let a = c.args in
     let e : l.i ≡ a.number = omega arith in
-    let p = puts_same a.out.now a.at (ap (lines_before a.choices.now a.utilities.now a.players) e) l.invariant.1 in
+    let p = puts_same a.out.now a.at (ap (lines_before a.choices.now a.utilities.now a.players) e) l.invariant in
     record { value = p.0; out_after = p.1 }

@@ -2,7 +2,7 @@
 use mathlib.Core.Path.{sym, ap}
 use mathlib.Core.List.{List, [], ◌∷◌, ◌++◌, map}
 use Prim.Native.Nat.{ℕ}
-use Rattle.outputs.proofs.Put.{puts_more, puts_same}
+use Rattle.outputs.proofs.Puts.{puts_more, puts_same}
 use Rattle.digits_and_lines.specs.Text.{decimal, line_end, spaced, joined, line}
 use Rattle.report_layout.specs.Lines.{bits_word, entry_line}
 use Rattle.report_lines.proofs.Lines.{joined_choices}
@@ -17,7 +17,7 @@ returns c =
     let ws : List (List ℕ) = map bits_word c.args.utilities.now in
     let d = c.put_numbers-place.ensures in
     let e = c.put_bits-place.ensures in
-    let f = c.put_byte.ensures in
+    let f = c.put.ensures in
     let p =
     puts_same old at (ap (λ (xs : List ℕ). xs ++ (line_end ∷ [])) (sym (joined_choices ns ws c.requires.choices_nonzero)))
     (puts_more old at (joined (map decimal ns) ++ spaced ws) (line_end ∷ [])

@@ -5,14 +5,14 @@ use mathlib.Core.Option.{Option, none, some}
 use Prim.Native.Nat.{ℕ}
 use lib.Ieee.{Float}
 use Rattle.refusal.specs.Refusal.{Refusal}
-use Rattle.refusal.specs.Told.{values, unless, option_usize}
+use Rattle.refusal.specs.Told.{values, unless}
 use Rattle.refusal.proofs.Told.{apart, told_values}
 use Rattle.payoff_tables.specs.Table.{table_game}
 use Rattle.payoff_tables.specs.Meaning.{Table}
 use Rattle.payoff_tables.proofs.Checks.{table_law}
 use Rattle.catalogue.specs.Catalogue.{catalogue}
 use Rattle.catalogue.specs.Answers.{game_number, number_answer}
-use Rattle.outputs.proofs.Put.{puts_same}
+use Rattle.outputs.proofs.Puts.{puts_same}
 use Rattle.digits_and_lines.specs.Text.{spaced, joined, line}
 use Rattle.report_layout.specs.Table.{number_line, catalogue_line}
 use Rattle.report_table.proofs.put_catalogue.Goals as goal
@@ -33,20 +33,20 @@ returns-in-Err c =
     let a = c.args in
     absurd (apart (number a.counts.now a.payoffs.now c.requires) _ (sym (told a.counts.now a.payoffs.now c.requires) ∙ sym c.in-Err.ensures))
 
-pub returns-in-None : goal.returns-in-None
+pub returns-in-Ok-None : goal.returns-in-Ok-None
 unfolding catalogue_line line joined spaced flat_map
-returns-in-None c =
+returns-in-Ok-None c =
     let a = c.args in
     let e = c.put.ensures in
-    let is = number_is a.counts.now a.payoffs.now c.requires none (ap (λ o. values (option_usize o)) (sym c.in-None.is) ∙ c.in-Ok.ensures) in
+    let is = number_is a.counts.now a.payoffs.now c.requires none (rw c.in-Ok-None.field-0-is at c.in-Ok-None.ensures) in
     let p = puts_same a.out.now a.at (ap catalogue_line is) (e.value, e.out_after) in
     record { value = p.0; out_after = p.1 }
 
-pub returns-in-Some : goal.returns-in-Some
+pub returns-in-Ok-Some : goal.returns-in-Ok-Some
 unfolding catalogue_line number_line
-returns-in-Some c =
+returns-in-Ok-Some c =
     let a = c.args in
     let e = c.put_number_line.ensures in
-    let is = number_is a.counts.now a.payoffs.now c.requires (some c.in-Some.n) (ap (λ o. values (option_usize o)) (sym c.in-Some.is) ∙ c.in-Ok.ensures) in
+    let is = number_is a.counts.now a.payoffs.now c.requires (some c.in-Ok-Some.n) (rw c.in-Ok-Some.field-0-is at c.in-Ok-Some.ensures) in
     let p = puts_same a.out.now a.at (ap catalogue_line is) (e.value, e.out_after) in
     record { value = p.0; out_after = p.1 }

@@ -17,7 +17,7 @@ use Rattle.payoff_tables.proofs.Checks.{table_law}
 use Rattle.equilibria.specs.Answers.{table_equilibria, equilibria_answer, equilibria_choices, equilibria_utilities}
 use Rattle.equilibria.proofs.Listing.{listing_all}
 use Rattle.report_input.specs.Input.{max_report_cells}
-use Rattle.outputs.proofs.Put.{puts_more, puts_same}
+use Rattle.outputs.proofs.Puts.{puts_more, puts_same}
 use Rattle.digits_and_lines.specs.Text.{decimal, line}
 use Rattle.report_layout.specs.Lines.{entry_lines}
 use Rattle.report_layout.specs.Table.{codes, number_line, equilibrium_line, equilibria_text}
@@ -59,12 +59,12 @@ module _ (counts : List ℕ) (payoffs : List Float) (table : Table counts payoff
   many_utilities utilities us u =
       omega (arith, ap length u, length-append (flat_map (profile_part counts payoffs) es) us, utilities_length counts payoffs table)
 
-pub returns-in-Err : goal.returns-in-Err
-returns-in-Err c =
+pub returns-in_default : goal.returns-in_default
+returns-in_default c =
     let a = c.args in
     let t = all a.counts.now a.payoffs.now c.requires.table c.requires.payoffs_len_bound in
     let n = length (table_equilibria a.counts.now a.payoffs.now) in
-    absurd (apart (record { total = n; written = n }) _ (sym t.0 ∙ sym c.in-Err.ensures.result_value))
+    absurd (apart (record { total = n; written = n }) _ (sym t.0 ∙ sym c.in_default.ensures.result_value))
 
 pub put_entries-requires : goal.put_entries-requires
 put_entries-requires c =
@@ -94,9 +94,9 @@ put_entries-requires c =
           subst (λ (xs : List Float). T (finite (get_or xs i nan))) (sym u) (utilities_finite counts payoffs t us i h);
     }
 
-pub returns-in-Ok : goal.returns-in-Ok
+pub returns : goal.returns
 unfolding equilibria_text number_line
-returns-in-Ok c =
+returns c =
     let a = c.args in
     let counts = a.counts.now in
     let payoffs = a.payoffs.now in

@@ -8,7 +8,7 @@ use lib.ListN.{length, replicate}
 use lib.Ieee.{Float}
 use Rattle.game.specs.Game.{strategy}
 use Rattle.payoff_tables.specs.Meaning.{Table}
-use Rattle.outputs.proofs.Put.{past_all, puts_more, puts_same}
+use Rattle.outputs.proofs.Puts.{past_all, puts_more, puts_same}
 use Rattle.outputs.specs.Put.{past}
 use Rattle.digits_and_lines.specs.Text.{decimal, line}
 use Rattle.report_layout.specs.Lines.{numbers_line, numbers_lines}

@@ -4,7 +4,7 @@ use lib.ListN.{length}
 use Rattle.payoff_tables.specs.Table.{table_game}
 use Rattle.catalogue.specs.Catalogue.{catalogue}
 use Rattle.catalogue.specs.Answers.{game_number}
-use Rattle.outputs.proofs.Put.{puts_more}
+use Rattle.outputs.proofs.Puts.{puts_more}
 use Rattle.digits_and_lines.specs.Text.{decimal, line}
 use Rattle.report_layout.specs.Table.{codes, number_line, catalogue_line, equilibria_text, struck_text, table_report}
 use Rattle.report_table.proofs.put_table.Goals as goal

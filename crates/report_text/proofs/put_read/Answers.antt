@@ -10,9 +10,9 @@ use Rattle.refusal.proofs.Told.{apart}
 use Rattle.payoff_tables.proofs.Checks.{counts_law}
 use Rattle.report_text.proofs.put_read.Goals as goal
 
-pub returns-in-Err : goal.returns-in-Err
-returns-in-Err c =
+pub returns-in_default : goal.returns-in_default
+returns-in_default c =
     let counts : List ℕ = take c.args.players c.args.counts.now in
     absurd
     (apart (product counts) _
-    (sym (ap (λ (r : Refusal). unless r (product counts)) ((counts_law counts).1 c.requires.table.shape)) ∙ sym c.in-Err.ensures))
+    (sym (ap (λ (r : Refusal). unless r (product counts)) ((counts_law counts).1 c.requires.table.shape)) ∙ sym c.in_default.ensures))

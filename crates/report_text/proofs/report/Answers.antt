@@ -12,7 +12,7 @@ use Rattle.payoff_tables.specs.Table.{cells}
 use Rattle.payoff_tables.specs.Meaning.{Table}
 use Rattle.file_words.specs.Words.{Bytes, words_of}
 use Rattle.deposit_format.specs.Deposit.{counts_in, payoffs_in}
-use Rattle.outputs.proofs.Put.{puts_same}
+use Rattle.outputs.proofs.Puts.{puts_same}
 use Rattle.report_input.specs.Input.{max_report_cells, input_table}
 use Rattle.report_layout.specs.Table.{number_line, table_report}
 use Rattle.report_layout.specs.Report.{told_report, report}

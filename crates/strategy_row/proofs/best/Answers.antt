@@ -1,109 +1,85 @@
-use mathlib.Core.Path.{◌≡◌, sym, ap, subst, ◌∙◌}
-use mathlib.Core.Bool.{Bool, true, false, not, ◌||◌, true≢false}
+use mathlib.Core.Bool.{Bool, true, false, true≢false}
+use mathlib.Core.List.{List}
+use mathlib.Core.Path.{◌≡◌, sym, subst, ◌∙◌}
 use Prim.Native.Nat.{ℕ, ◌+◌, ◌*◌, ◌<◌}
 use native.Mathlib.Omega.{arith}
+use borrow.Author.Rules.{rules}
 use borrow.Author.Tests.{ltb-true, ltb-false}
-use lib.Dec.{T, ltb}
+use lib.Dec.{T}
 use lib.ListN.{length, get_or}
-use lib.Ieee.{Float, nan}
+use lib.Ieee.{Float, nan, fits, binary64}
+use Rattle.std.specs.Prelude.{Option, Some, None, IsTrue}
+use Rattle.std.specs.Option.{MatchOption}
 use Rattle.payoff_order.specs.Order.{greater}
 use Rattle.utility.specs.Value.{value_of}
-use Rattle.payoff_tables.specs.Table.{cell_rank}
+use Rattle.utility.specs.declared.Utility.{Utility}
+use Rattle.payoff_tables.specs.Meaning.{Finites}
 use Rattle.payoff_tables.proofs.Game.{cells_greater}
-use Rattle.strategy_row.proofs.Row.{first_cell, Found, found_none, found_old, found_new, found_end}
+use Rattle.strategy_row.specs.Row.{row_lowest}
+use Rattle.strategy_row.proofs.Row.{Found, found_old, found_new, found_end, On}
+use Rattle.strategy_row.proofs.best.Invariants.{Best}
 use Rattle.strategy_row.proofs.best.Goals as goal
-use Rattle.strategy_row.proofs.best.Goals.{Joined-marks-place, Start, Then-marks-place, then-marks-place+then-any-exceeds, then-marks-place+else-any-exceeds, else-marks-place}
+use Rattle.strategy_row.proofs.best.Goals.{then-marks-place+then-is_none_or, then-marks-place+else-is_none_or, else-marks-place}
 
--- the first cell of the row, and that of the strategy at hand, lie within the table
-first : (c : Start) → c.args.start < length c.args.payoffs.now
-first c = rw (← first_cell c.args.start c.args.step) (c.requires.by_index 0 c.requires.count_nonzero)
+-- whether the utility is the first, or exceeds that of the best one so far
+abbrev Better : Option (ℕ × Utility) → Utility → Bool → Type 0
+Better o mine is = MatchOption o (IsTrue is) (λ x. is ≡ greater (value_of mine) (value_of x.1))
 
-cell : (c : Then-marks-place) → c.args.start + c.loop-t.t * c.args.step < length c.args.payoffs.now
-cell c = c.requires.by_index c.loop-t.t c.loop-t-test.true
+module _ (payoffs : List Float) (marks : List Bool) (place start step count : ℕ) (finites : Finites payoffs)
+    (held : (i : ℕ) → i < length payoffs → T (fits binary64 (get_or payoffs i nan)))
+    (inside : (t : ℕ) → t < count → start + t * step < length payoffs) where
+  -- a strategy that is not marked changes nothing,
+  unmarked : (o : Option (ℕ × Utility)) (n : ℕ) → Best payoffs marks place start step o n → (On payoffs marks place start step n → ⊥)
+      → Best payoffs marks place start step o (n + 1)
+  unmarked None n b off = found_old payoffs marks place start step false 0 n b (λ on. absurd (off on))
+  unmarked (Some (s, top)) n b off = (b.0, found_old payoffs marks place start step true s n b.1 (λ on. absurd (off on)))
 
-pub offset_bounds-payoffs-start : goal.offset_bounds-payoffs-start
-offset_bounds-payoffs-start c = omega (arith, first (goal.at.offset_bounds-payoffs-start c).Start)
+  module _ (n : ℕ) (l : n < count) (on : On payoffs marks place start step n) (mine : Utility) (e : value_of mine ≡ get_or payoffs (start + n * step) nan) where
+    -- nor does one that is not better,
+    kept : (o : Option (ℕ × Utility)) → Best payoffs marks place start step o n → Better o mine false → Best payoffs marks place start step o (n + 1)
+    kept None b h = absurd (true≢false (sym h))
+    kept (Some (s, top)) b h = (
+      b.0,
+      found_old payoffs marks place start step true s n b.1
+          (λ _. (tt, ltb-false _ _ (sym (h ∙ cells_greater payoffs finites held _ _ (inside n l) (inside s (omega (arith, (b.1.something tt).0, l))) e b.0)))),
+    )
 
-pub bounds-payoffs-start : goal.bounds-payoffs-start
-bounds-payoffs-start c = first (goal.at.bounds-payoffs-start c).Start
+    -- and a better one is the best from there on
+    taken : (o : Option (ℕ × Utility)) → Best payoffs marks place start step o n → Better o mine true → Best payoffs marks place start step (Some (n, mine)) (n + 1)
+    taken None b h = (e, found_new payoffs marks place start step false 0 n b on (λ k. absurd k))
+    taken (Some (s, top)) b h = (
+      e,
+      found_new payoffs marks place start step true s n b.1 on
+          (λ _. ltb-true _ _ (sym (h ∙ cells_greater payoffs finites held _ _ (inside n l) (inside s (omega (arith, (b.1.something tt).0, l))) e b.0))),
+    )
 
-pub of_finite-top-requires : goal.of_finite-top-requires
-of_finite-top-requires c = c.requires.finites _ (first (goal.at.of_finite-top-requires c).Start)
-
-pub loop-t-init : goal.loop-t-init
-loop-t-init c =
-    let read : ℕ → Float = λ i. get_or c.args.payoffs.now i nan in
-    (omega arith, c.of_finite-top.ensures ∙ ap read (sym (first_cell _ _)), found_none _ _ _ _ _)
-
-pub overflow_add-place : goal.overflow_add-place
-overflow_add-place c = omega (arith, c.requires)
-
-pub bounds-marks-place : goal.bounds-marks-place
-bounds-marks-place c = omega (arith, c.requires)
-
-pub overflow_mul-t : goal.overflow_mul-t
-overflow_mul-t c = omega (arith, cell (goal.at.overflow_mul-t c).Then-marks-place)
-
-pub overflow_add-start : goal.overflow_add-start
-overflow_add-start c = omega (arith, cell (goal.at.overflow_add-start c).Then-marks-place)
-
-pub offset_bounds-payoffs-start-then-marks-place : goal.offset_bounds-payoffs-start-then-marks-place
-offset_bounds-payoffs-start-then-marks-place c = omega (arith, cell (goal.at.offset_bounds-payoffs-start-then-marks-place c).Then-marks-place)
-
-pub bounds-payoffs-start-then-marks-place : goal.bounds-payoffs-start-then-marks-place
-bounds-payoffs-start-then-marks-place c = cell (goal.at.bounds-payoffs-start-then-marks-place c).Then-marks-place
-
-pub of_finite-mine-requires : goal.of_finite-mine-requires
-of_finite-mine-requires c = c.requires.finites _ (cell (goal.at.of_finite-mine-requires c).Then-marks-place)
-
--- what the test of the loop says
-newer : (any exceeds : Bool) → (not any || exceeds) ≡ true → T any → exceeds ≡ true
-newer true exceeds h k = h
-newer false exceeds h k = absurd k
-
-older : (any exceeds : Bool) → (not any || exceeds) ≡ false → T any × (exceeds ≡ false)
-older true exceeds h = (tt, h)
-older false exceeds h = absurd (true≢false h)
-
--- where one is marked, the comparison of the two utilities is that of the ranks
-compared : (c : Joined-marks-place) {x : Float} →
-    let l = c.loop-t in
-    let a = c.args in
-    T l.any → x ≡ get_or a.payoffs.now (a.start + l.t * a.step) nan
-    → greater x (value_of l.top)
-    ≡ ltb (cell_rank a.payoffs.now (a.start + l.best * a.step)) (cell_rank a.payoffs.now (a.start + l.t * a.step))
-compared c h e =
-    let l = c.loop-t in
-    let t = c.loop-t-test.true in
-    cells_greater c.args.payoffs.now c.requires.finites (λ i _. c.type_inv.payoffs i) _ _
-    (c.requires.by_index l.t t) (c.requires.by_index l.best (omega (arith, (l.invariant.2.something h).0, t))) e l.invariant.1
+  -- what is found of all strategies is the lowest best one
+  ended : (o : Option (ℕ × Utility)) (r n : ℕ) → n ≡ count → Best payoffs marks place start step o n → MatchOption o (r ≡ 0) (λ x. r ≡ x.0)
+      → r ≡ row_lowest payoffs marks place start step count
+  ended None r n e b h = h ∙ found_end payoffs marks place start step false 0 count (subst (Found payoffs marks place start step false 0) e b)
+  ended (Some (s, top)) r n e b h = h ∙ found_end payoffs marks place start step true s count (subst (Found payoffs marks place start step true s) e b.1)
 
 pub loop-t-preserved : goal.loop-t-preserved
 loop-t-preserved c =
     let l = c.loop-t in
+    let a = c.args in
+    let held = λ (i : ℕ) (_ : i < length a.payoffs.now). c.type_inv.payoffs i in
     elim c.if-marks-place.branch [
-      | then-marks-place+then-any-exceeds w ↦
-          rw (w.any-is, w.best-is, w.top-is) (
-            omega arith,
-            w.of_finite-mine.ensures,
-            found_new _ _ _ _ _ l.any l.best l.t l.invariant.2 (subst T (sym w.if-marks-place.true) tt)
-                (λ h. ltb-true _ _ (sym (w.exceeds.ensures ∙ compared (goal.at.loop-t-preserved c).Joined-marks-place h w.of_finite-mine.ensures) ∙ newer l.any _ w.if-any-exceeds.true h)),
-          )
-      | then-marks-place+else-any-exceeds w ↦
-          let (h, e) = older l.any _ w.if-any-exceeds.false in
-          rw (w.any-is, w.best-is, w.top-is) (
-            omega arith,
-            l.invariant.1,
-            found_old _ _ _ _ _ l.any l.best l.t l.invariant.2
-                (λ _. (h, ltb-false _ _ (sym (w.exceeds.ensures ∙ compared (goal.at.loop-t-preserved c).Joined-marks-place h w.of_finite-mine.ensures) ∙ e))),
-          )
+      | then-marks-place+then-is_none_or w ↦
+          let h : Better l.best w.of_finite-mine.result w.is_none_or.result = search rules in
+          rw w.best-is (taken a.payoffs.now a.marks.now a.place a.start a.step a.count c.requires.finites held c.requires.by_index l.t c.loop-t-test.true
+          (subst T (sym w.if-marks-place.true) tt) w.of_finite-mine.result w.of_finite-mine.ensures l.best l.invariant (rw w.if-is_none_or.true at h))
+      | then-marks-place+else-is_none_or w ↦
+          let h : Better l.best w.of_finite-mine.result w.is_none_or.result = search rules in
+          rw w.best-is (kept a.payoffs.now a.marks.now a.place a.start a.step a.count c.requires.finites held c.requires.by_index l.t c.loop-t-test.true
+          (subst T (sym w.if-marks-place.true) tt) w.of_finite-mine.result w.of_finite-mine.ensures l.best l.invariant (rw w.if-is_none_or.false at h))
       | else-marks-place w ↦
-          rw (w.any-is, w.best-is, w.top-is)
-          (omega arith, l.invariant.1, found_old _ _ _ _ _ l.any l.best l.t l.invariant.2 (λ on. absurd (subst T w.if-marks-place.false on)))
+          rw w.best-is (unmarked a.payoffs.now a.marks.now a.place a.start a.step a.count c.requires.finites held c.requires.by_index l.best l.t l.invariant
+          (subst T w.if-marks-place.false))
     ]
 
 pub returns : goal.returns
 returns c =
-    let l = c.loop-t in
-    let done : l.t ≡ c.args.count = omega arith in
-    found_end _ _ _ _ _ l.any l.best _ (subst (Found _ _ _ _ _ l.any l.best) done l.invariant.2)
+    let a = c.args in
+    ended a.payoffs.now a.marks.now a.place a.start a.step a.count c.requires.finites (λ i _. c.type_inv.payoffs i) c.requires.by_index c.loop-t.best c.map_or.result c.loop-t.t
+    (omega arith) c.loop-t.invariant (search rules)

@@ -10,7 +10,7 @@ use lib.ListN.{length, get_or, replicate, get_or-replicate}
 use Rattle.game.specs.Game.{whole}
 use Rattle.game.specs.Solution.{dominator}
 use Rattle.game.proofs.Ordinal.{marks_read}
-use Rattle.refusal.specs.Told.{option_usize}
+use Rattle.refusal.specs.Told.{optional}
 use Rattle.payoff_tables.specs.Limits.{max_strategies, max_marks}
 use Rattle.payoff_tables.specs.Table.{table_game}
 use Rattle.payoff_tables.specs.Meaning.{Shape}
@@ -19,7 +19,7 @@ use Rattle.marks.proofs.Marks.{marks_whole}
 use Rattle.dominance.specs.Answers.{dominated_of, dominated_strategies}
 use Rattle.strict_dominance.proofs.Dominated.{dominated_below, dominated_more, dominated_few, first_length, second_length, collected_none, collected_some}
 use Rattle.strict_dominance.proofs.collect.Goals as goal
-use Rattle.strict_dominance.proofs.collect.Goals.{In-loop-s, in-None, in-Some}
+use Rattle.strict_dominance.proofs.collect.Goals.{In-loop-s, in-Some, in_default}
 
 -- marks on every place are the whole game's
 whole-dominator : (cs : List ℕ) (ps : List Float) (p : ℕ) → Shape cs → p < length cs → (s : ℕ) → s < get_or cs p 0
@@ -27,12 +27,6 @@ whole-dominator : (cs : List ℕ) (ps : List Float) (p : ℕ) → Shape cs → p
 unfolding table_game
 whole-dominator cs ps p shape mine s l =
     (marks_read (table_game cs ps) (marked (replicate max_marks true)) (whole (table_game cs ps)) (marks_whole cs ps shape)).same_dominator p s mine l
-
-pub offset_bounds-counts-player : goal.offset_bounds-counts-player
-offset_bounds-counts-player c = omega (arith, c.requires.player_in_bounds, c.requires.table.shape.few)
-
-pub bounds-counts-player : goal.bounds-counts-player
-bounds-counts-player c = c.requires.player_in_bounds
 
 pub loop-s-init : goal.loop-s-init
 unfolding flat_map
@@ -55,9 +49,6 @@ room c =
       second_length l.invariant.1 (omega (arith, few, l.invariant.0, high, full)) ∙ full.1,
     )
 
-pub slice_bounds-lowest_dominator-end : goal.slice_bounds-lowest_dominator-end
-slice_bounds-lowest_dominator-end c = refl
-
 pub lowest_dominator-requires : goal.lowest_dominator-requires
 lowest_dominator-requires c =
     let r = c.requires in record {
@@ -69,42 +60,27 @@ lowest_dominator-requires c =
       strategy_bound = c.loop-s-test.true;
     }
 
-pub offset_bounds-strategies-number : goal.offset_bounds-strategies-number
-offset_bounds-strategies-number c = omega (arith, room (goal.at.offset_bounds-strategies-number c).In-loop-s)
-
 pub bounds-strategies-number : goal.bounds-strategies-number
 bounds-strategies-number c = omega (arith, room (goal.at.bounds-strategies-number c).In-loop-s)
 
-pub offset_bounds-lowest-number : goal.offset_bounds-lowest-number
-offset_bounds-lowest-number c = omega (arith, room (goal.at.offset_bounds-lowest-number c).In-loop-s)
-
 pub bounds-lowest-number : goal.bounds-lowest-number
 bounds-lowest-number c = omega (arith, room (goal.at.bounds-lowest-number c).In-loop-s)
-
-pub overflow_add-number : goal.overflow_add-number
-overflow_add-number c = omega (arith, room (goal.at.overflow_add-number c).In-loop-s)
-
-pub overflow_add-s : goal.overflow_add-s
-overflow_add-s c = omega (arith, c.loop-s-test, c.requires.table.shape.high c.args.player c.requires.player_in_bounds)
-
-pub loop-s-smaller : goal.loop-s-smaller
-loop-s-smaller c = omega (arith, c.loop-s-test)
 
 pub loop-s-preserved : goal.loop-s-preserved
 loop-s-preserved c =
     let a = c.args in
     let g = table_game a.counts.now a.payoffs.now in
     let i : ℕ = c.loop-s.s in
-    let is : option_usize c.lowest_dominator.result ≡ dominator g (whole g) a.player i =
+    let is : optional c.lowest_dominator.result ≡ dominator g (whole g) a.player i =
     c.lowest_dominator.ensures ∙ whole-dominator a.counts.now a.payoffs.now a.player c.requires.table.shape c.requires.player_in_bounds i c.loop-s-test.true in
     let more = ap (dominated_below g (whole g) a.player) (add-one i) ∙ dominated_more g (whole g) a.player i in
     let full = c.requires.strategies_len in
     let m = c.match-lowest_dominator in (
       omega (arith, c.loop-s-test),
       elim m.branch [
-        | in-None w ↦ collected_none c.loop-s.invariant.1 _ i _ more m.number m.strategies m.lowest (sym is ∙ ap option_usize w.in-None.is) w.number-is w.strategies-is w.lowest-is
+        | in_default w ↦ collected_none c.loop-s.invariant.1 _ i _ more m.number m.strategies m.lowest (sym is ∙ ap optional w.in_default.is) w.number-is w.strategies-is w.lowest-is
         | in-Some w ↦
-            collected_some c.loop-s.invariant.1 _ i _ more m.number m.strategies m.lowest _ (sym is ∙ ap option_usize w.in-Some.is) w.number-is w.strategies-is w.lowest-is
+            collected_some c.loop-s.invariant.1 _ i _ more m.number m.strategies m.lowest _ (sym is ∙ ap optional w.in-Some.is) w.number-is w.strategies-is w.lowest-is
             (omega (arith, (room (goal.at.loop-s-preserved c).In-loop-s).0, full.0)) (omega (arith, (room (goal.at.loop-s-preserved c).In-loop-s).0, full.1))
       ],
     )

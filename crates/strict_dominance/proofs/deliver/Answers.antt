@@ -1,11 +1,12 @@
 -- `strict_dominance::deliver` meets its contract: the list is collected first, so that nothing is written where an output is too short, and then
 -- copied into both outputs. Assumes nothing.
-use mathlib.Core.Path.{◌≡◌, refl, sym, ap, ◌∙◌}
-use mathlib.Core.List.{List}
+use mathlib.Core.Path.{◌≡◌, refl, sym, ap, ap₂, ◌∙◌}
+use mathlib.Core.List.{List, ◌++◌}
 use mathlib.Core.Option.{none}
 use Prim.Native.Nat.{ℕ, ◌≤◌}
 use native.Mathlib.Omega.{arith}
-use lib.ListN.{length, replicate}
+use lib.ListN.{length, take, drop, replicate}
+use lib.Seq.{length-take-le}
 use Rattle.refusal.specs.Refusal.{Refusal}
 use Rattle.refusal.specs.Told.{values, unless}
 use Rattle.written_lists.specs.Outputs.{room_refusal, over}
@@ -51,15 +52,10 @@ returns-then-dominators-number c =
       dominators_after = refl;
     }
 
-pub copy_first-requires : goal.copy_first-requires
-copy_first-requires c =
-    let k = (goal.at.copy_first-requires c).After-collect-number in
-    omega (arith, first_length (got k) (few k), few k, c.if-dominated-number)
-
-pub copy_first-requires-2 : goal.copy_first-requires-2
-copy_first-requires-2 c =
-    let k = (goal.at.copy_first-requires-2 c).After-collect-number in
-    omega (arith, second_length (got k) (few k), few k, c.if-dominators-number)
+-- the first n of a list, copied
+copied : (from to ys : List ℕ) (n : ℕ) → n ≤ length from → ys ≡ take n from → ys ++ drop n to ≡ over (take n from) to
+copied from to ys n few is =
+    ap₂ (λ (zs : List ℕ) (m : ℕ). zs ++ drop m to) is (sym (length-take-le n from few))
 
 pub returns : goal.returns
 returns c =
@@ -68,6 +64,6 @@ returns c =
     let n = c.collect-number.ensures.value in record {
       result_value = ap (λ (i : ℕ). values i) n ∙ answers (dominated_strategies a.counts.now a.payoffs.now a.player) a.dominated.now a.dominators.now none
           (room_fits _ _ _ (omega (arith, n, c.if-dominated-number)) (omega (arith, n, c.if-dominators-number)));
-      dominated_after = c.copy_first.ensures ∙ ap (λ l. over l a.dominated.now) (first_taken (got k));
-      dominators_after = c.copy_first-2.ensures ∙ ap (λ l. over l a.dominators.now) (second_taken (got k));
+      dominated_after = copied _ _ _ _ (omega (arith, first_length (got k) (few k), few k)) c.copy_from_slice.ensures.after ∙ ap (λ l. over l a.dominated.now) (first_taken (got k));
+      dominators_after = copied _ _ _ _ (omega (arith, second_length (got k) (few k), few k)) c.copy_from_slice-2.ensures.after ∙ ap (λ l. over l a.dominators.now) (second_taken (got k));
     }

@@ -2,8 +2,7 @@
 -- of the player's cells that starts before `base`, where the others' choices are marked, the strategy pays less than t; and a row starts at
 -- `base`, which, where marks are read, has the others' choices marked, and `choices` keeps them. A row that denies it ends the candidate;
 -- after the last row t is the lowest dominator. Assumes nothing.
-use mathlib.Core.Path.{◌≡◌}
-use Prim.Native.Nat.{ℕ, ◌-◌, ◌<◌, ◌≤◌}
+use Prim.Native.Nat.{ℕ, ◌-◌, ◌<◌}
 use lib.Dec.{T}
 use lib.ListN.{get_or}
 use Rattle.game.specs.Finite.{product}
@@ -16,8 +15,7 @@ use Rattle.strict_dominance.proofs.lowest_dominator.Given as goal
 
 abbrev pub invariant-loop-base : goal.invariant-loop-base
 invariant-loop-base l =
-    (l.t ≡ l.initial.t)
-    × LessTo l.counts l.payoffs l.marks l.player l.stride l.strategy l.t l.base
+    LessTo l.counts l.payoffs l.marks l.player l.stride l.strategy l.t l.base
     × (T l.whole → Start l.stride (get_or l.counts l.player 0) l.base l.within)
     × ((T l.whole → ⊥) → l.base < product l.counts → MarkedRow l.counts (marked l.marks) l.player l.base × Kept l.counts l.player 0 l.choices l.base)
 
@@ -25,7 +23,4 @@ abbrev pub decreases-loop-base : goal.decreases-loop-base
 decreases-loop-base l = l.profiles - l.base
 
 abbrev pub invariant-candidates : goal.invariant-candidates
-invariant-candidates l = (l.t ≤ get_or l.counts l.player 0) × ((u : ℕ) → u < l.t → Dominator (table_game l.counts l.payoffs) (marked l.marks) l.player l.strategy u → ⊥)
-
-abbrev pub decreases-candidates : goal.decreases-candidates
-decreases-candidates l = l.count - l.t
+invariant-candidates l = (u : ℕ) → u < l.t → Dominator (table_game l.counts l.payoffs) (marked l.marks) l.player l.strategy u → ⊥

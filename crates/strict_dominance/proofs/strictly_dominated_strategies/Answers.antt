@@ -9,7 +9,7 @@ use lib.Ieee.{Float}
 use lib.ListN.{length}
 use Rattle.game.specs.Finite.{product}
 use Rattle.refusal.specs.Told.{Told, refused}
-use Rattle.refusal.proofs.Told.{told_values, refused_first}
+use Rattle.refusal.proofs.Told.{told_values, refused_first, handed_on}
 use Rattle.written_lists.specs.Outputs.{over}
 use Rattle.payoff_tables.specs.Checks.{table_refusal}
 use Rattle.payoff_tables.proofs.Checks.{table_law, player_law, no_player}
@@ -36,7 +36,7 @@ module _ (counts : List ℕ) (payoffs : List Float) (player : ℕ) where
 pub returns-then-counts-player : goal.returns-then-counts-player
 returns-then-counts-player c =
     let a = c.args in
-    let k : (table_refusal a.counts.now a.payoffs.now ≡ none) × (c.in-Ok.profiles ≡ product a.counts.now) = told_values _ _ _ c.in-Ok.ensures in
+    let k : (table_refusal a.counts.now a.payoffs.now ≡ none) × (c.in_ok-profiles.profiles ≡ product a.counts.now) = told_values _ _ _ c.in_ok-profiles.ensures in
     let e = player-refused a.counts.now a.payoffs.now a.player (length a.dominated.now) (length a.dominators.now) k.0 (omega (arith, c.if-counts-player)) in
     record {
       result_value = e;
@@ -47,24 +47,24 @@ returns-then-counts-player c =
 pub deliver-requires : goal.deliver-requires
 deliver-requires c =
     let a = c.args in
-    let k : (table_refusal a.counts.now a.payoffs.now ≡ none) × (c.in-Ok.profiles ≡ product a.counts.now) = told_values _ _ _ c.in-Ok.ensures in
+    let k : (table_refusal a.counts.now a.payoffs.now ≡ none) × (c.in_ok-profiles.profiles ≡ product a.counts.now) = told_values _ _ _ c.in_ok-profiles.ensures in
     record { table = (table_law a.counts.now a.payoffs.now).0 k.0; profiles_value = k.1; player_in_bounds = c.if-counts-player.false }
 
-pub returns-in-Err : goal.returns-in-Err
+pub returns-in_err-profiles : goal.returns-in_err-profiles
 unfolding dominated_answer
-returns-in-Err c =
+returns-in_err-profiles c =
     let a = c.args in
-    let e = refused_first (table_refusal a.counts.now a.payoffs.now) _ _ _ c.in-Err.ensures _ in
+    let e = refused_first (table_refusal a.counts.now a.payoffs.now) _ _ _ c.in_err-profiles.ensures _ in
     record {
-      result_value = e;
+      result_value = handed_on _ _ c.from_residual.ensures.1 ∙ e;
       dominated_after = put a.counts.now a.payoffs.now a.player strategies_of a.dominated.now e;
       dominators_after = put a.counts.now a.payoffs.now a.player dominators_of a.dominators.now e;
     }
 
-pub returns-else-counts-player : goal.returns-else-counts-player
-returns-else-counts-player c =
+pub returns : goal.returns
+returns c =
     let a = c.args in
-    let k : (table_refusal a.counts.now a.payoffs.now ≡ none) × (c.in-Ok.profiles ≡ product a.counts.now) = told_values _ _ _ c.in-Ok.ensures in
+    let k : (table_refusal a.counts.now a.payoffs.now ≡ none) × (c.in_ok-profiles.profiles ≡ product a.counts.now) = told_values _ _ _ c.in_ok-profiles.ensures in
     let e = c.deliver.ensures.result_value ∙ delivered a.counts.now a.payoffs.now a.player (length a.dominated.now) (length a.dominators.now) k.0 c.if-counts-player.false in
     record {
       result_value = e;

@@ -4,7 +4,7 @@ use mathlib.Core.Path.{subst⁻¹}
 use lib.Seq.{take_all}
 use lib.Ieee.{Float}
 use Rattle.game.specs.Game.{Strategy, strategy}
-use Rattle.refusal.specs.Told.{Told, values, refused, told_usize, status, tells}
+use Rattle.refusal.specs.Told.{Told, values, refused, told, status, tells}
 use Rattle.written_lists.specs.Outputs.{over}
 use Rattle.payoff_tables.specs.Meaning.{Table}
 use Rattle.survivors.specs.declared.Survivors.{Survivors}
@@ -13,7 +13,7 @@ use Rattle.survivors.specs.Survivors.{marks_of}
 use Rattle.game.specs.Strikes.{answer}
 use Rattle.payoff_tables.specs.Table.{table_game}
 use Rattle.strike_chains.specs.Answers.{calls_of, Chain, chain, accepted_of, dominator_of}
-use Rattle.strike_chains.proofs.Chain.{Good, told}
+use Rattle.strike_chains.proofs.Chain.{Good, told as strike_told}
 use Rattle.strike_chains.proofs.Demand3.{from_fresh}
 use Rattle.strike_chains.proofs.Written.{calls_length, calls_at, Written, written_few, written_more}
 use Rattle.strike_lists.proofs.strike_each.Goals as goal
@@ -27,7 +27,7 @@ module _ (cs : List ℕ) (ps : List Float) (calls : List Strategy) (old old' : L
   good = subst⁻¹ (Good cs ps) w.survivors (from_fresh cs ps table (take i calls)).stays
 
   answers-so : a ≡ strike_answer cs ps v call
-  answers-so = is ∙ sym (told cs ps table v good call)
+  answers-so = is ∙ sym (strike_told cs ps table v good call)
 
   leaves-so : left ≡ strike_leaves cs ps v call
   unfolding strike_leaves
@@ -45,14 +45,14 @@ one false = omega arith
 pub write_answer-taken-requires : goal.write_answer-taken-requires
 write_answer-taken-requires c =
     let e = calls_length c.args.players.now c.args.strategies.now in (
-      omega (arith, e, c.lesser-number.ensures, c.loop-i.auto.answers, c.requires.strategies_in_bounds, c.loop-i-test.true),
-      omega (arith, e, c.lesser-number.ensures, c.loop-i.auto.dominators, c.requires.strategies_in_bounds_2, c.loop-i-test.true),
+      omega (arith, e, c.min-number.ensures, c.loop-i.auto.answers, c.requires.strategies_in_bounds, c.loop-i-test.true),
+      omega (arith, e, c.min-number.ensures, c.loop-i.auto.dominators, c.requires.strategies_in_bounds_2, c.loop-i-test.true),
     )
 
 pub overflow_add-accepted : goal.overflow_add-accepted
 overflow_add-accepted c =
     let few = written_few c.args.counts.now c.args.payoffs.now _ c.args.answers.now c.args.dominators.now c.loop-i.invariant in
-    omega (arith, few, c.write_answer-taken.ensures.value, one (tells (told_usize c.strike_marked-struck.result.answer)), c.loop-i-test.true)
+    omega (arith, few, c.write_answer-taken.ensures.value, one (tells (told c.strike_marked-struck.result.answer)), c.loop-i-test.true)
 
 pub loop-i-preserved : goal.loop-i-preserved
 loop-i-preserved c =
@@ -68,9 +68,9 @@ loop-i-preserved c =
     let w = c.loop-i.invariant in
     let s = c.strike_marked-struck in
     let call = strategy (get_or players i 0) (get_or strategies i 0) in
-    let a = told_usize s.result.answer in
+    let a = told s.result.answer in
     let e = c.write_answer-taken.ensures in
-    let under : i < length calls = omega (arith, calls_length players strategies, c.lesser-number.ensures, c.loop-i-test.true) in
+    let under : i < length calls = omega (arith, calls_length players strategies, c.min-number.ensures, c.loop-i-test.true) in
     let so = answers-so cs ps calls old old' i v c.loop-i.accepted c.loop-i.answers c.loop-i.dominators c.requires.table w call a s.result.survivors s.ensures.answer_value s.ensures.survivors_value in
     let leaves : s.result.survivors ≡ strike_leaves cs ps v call =
     leaves-so cs ps calls old old' i v c.loop-i.accepted c.loop-i.answers c.loop-i.dominators c.requires.table w call a s.result.survivors s.ensures.answer_value s.ensures.survivors_value in
@@ -91,7 +91,7 @@ returns c =
     let i = c.loop-i.i in
     let w = c.loop-i.invariant in
     let many = calls_length c.args.players.now c.args.strategies.now in
-    let all : take i calls ≡ calls = take_all i calls (omega (arith, c.loop-i-test.false, many, c.lesser-number.ensures)) in
+    let all : take i calls ≡ calls = take_all i calls (omega (arith, c.loop-i-test.false, many, c.min-number.ensures)) in
     let is : chain cs ps (take i calls) ≡ chain cs ps calls = ap (chain cs ps) all in
     record {
       answer_value = ap (λ (n : ℕ). values n) (w.number ∙ ap (λ (x : Chain). accepted_of x.answers) is);

@@ -1,8 +1,8 @@
--- `sums::add_terms` meets its contract. The loop's invariant: the sums passed have their term, the others are as before. The measure is
--- what is left of the count. Assumes nothing.
+-- `sums::add_terms` meets its contract. The loop's invariant: the sums passed have their term, the
+-- others are as before. Assumes nothing.
 use mathlib.Core.Path.{◌≡◌}
 use mathlib.Core.List.{List}
-use Prim.Native.Nat.{ℕ, ◌≤◌, ◌-◌, ◌+◌, ◌*◌}
+use Prim.Native.Nat.{ℕ, ◌+◌, ◌*◌}
 use lib.Ieee.{Float, nan, binary64, sub, mul}
 use lib.ListN.{get_or}
 use Rattle.sums.specs.Inner.{added}
@@ -13,7 +13,4 @@ abbrev pub terms : Float → Float → List Float → ℕ → ℕ → ℕ → Fl
 terms weight less table first step t = mul binary64 weight (sub binary64 (get_or table (t * step + first) nan) less)
 
 abbrev pub invariant-loop-t : goal.invariant-loop-t
-invariant-loop-t l = (l.t ≤ l.count) × (l.sums ≡ added l.t (terms l.weight l.less l.table l.first l.step) l.initial.sums)
-
-abbrev pub decreases-loop-t : goal.decreases-loop-t
-decreases-loop-t l = l.count - l.t
+invariant-loop-t l = l.sum-items ≡ added l.t (terms l.weight l.less l.table l.first l.step) l.initial.sum-items

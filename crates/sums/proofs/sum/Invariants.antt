@@ -1,13 +1,9 @@
--- `sums::sum` meets its contract. The loop's invariant: `total` is the sum of the values passed. The measure is what is left of the
--- length. Assumes nothing.
+-- `sums::sum` meets its contract. The loop's invariant: `total` is the sum of the values passed.
+-- Assumes nothing.
 use mathlib.Core.Path.{◌≡◌}
-use Prim.Native.Nat.{◌≤◌, ◌-◌}
-use lib.ListN.{length, take}
+use lib.ListN.{take}
 use Rattle.sums.specs.Sums.{rounded_sum}
 use Rattle.sums.proofs.sum.Given as goal
 
-abbrev pub invariant-loop-i : goal.invariant-loop-i
-invariant-loop-i l = (l.i ≤ length l.values) × (l.total ≡ rounded_sum (take l.i l.values))
-
-abbrev pub decreases-loop-i : goal.decreases-loop-i
-decreases-loop-i l = length l.values - l.i
+abbrev pub invariant-loop-value : goal.invariant-loop-value
+invariant-loop-value l = l.total ≡ rounded_sum (take l.value-index l.values)

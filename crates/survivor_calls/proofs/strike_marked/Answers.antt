@@ -1,8 +1,8 @@
 -- `survivor_calls::strike_marked` meets its contract, by the cases of the rule. Assumes nothing.
 use Rattle.std.proofs.Common.{sym, ◌∙◌, subst, List, ℕ, ◌+◌, ◌*◌, ◌<◌, length, get_or, arith}
 use lib.Dec.{T}
-use Rattle.refusal.specs.Told.{option_usize}
-use Rattle.refusal.specs.declared.UsizeOption.TheVariants.{None, Some}
+use Rattle.refusal.specs.Told.{optional}
+use Rattle.std.specs.Prelude.{None, Some}
 use Rattle.payoff_tables.specs.Limits.{max_players, max_strategies, max_marks}
 use Rattle.payoff_tables.specs.Meaning.{Shape}
 use Rattle.marks.specs.Marks.{marked}
@@ -47,7 +47,7 @@ returns-in-None-clause-answer_value c =
     let least = low c.args.counts.now c.requires.table.shape p s c.if-counts-player.false c.if-counts-player-2.false in
     c.refuse-in-None.ensures.0
     ∙ told_by c.args.counts.now c.args.payoffs.now (marked c.args.survivors.marks) p s c.if-counts-player.false c.if-counts-player-2.false
-    (subst T (sym (mark_at c.args.survivors.marks p s least ∙ c.if-not-marks-player.false)) tt) (option_usize None) c.in-None.ensures
+    (subst T (sym (mark_at c.args.survivors.marks p s least ∙ c.if-not-marks-player.false)) tt) (optional None) c.in-None.ensures
 
 pub returns-in-Some-clause-answer_value : goal.returns-in-Some-clause-answer_value
 returns-in-Some-clause-answer_value c =
@@ -55,4 +55,4 @@ returns-in-Some-clause-answer_value c =
     let s = c.args.strategy in
     let least = low c.args.counts.now c.requires.table.shape p s c.if-counts-player.false c.if-counts-player-2.false in
     told_by c.args.counts.now c.args.payoffs.now (marked c.args.survivors.marks) p s c.if-counts-player.false c.if-counts-player-2.false
-    (subst T (sym (mark_at c.args.survivors.marks p s least ∙ c.if-not-marks-player.false)) tt) (option_usize (Some c.in-Some.t)) c.in-Some.ensures
+    (subst T (sym (mark_at c.args.survivors.marks p s least ∙ c.if-not-marks-player.false)) tt) (optional (Some c.in-Some.t)) c.in-Some.ensures

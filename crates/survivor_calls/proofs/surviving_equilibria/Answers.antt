@@ -7,7 +7,7 @@ use Rattle.refusal.specs.Refusal.{number_of}
 use Rattle.refusal.specs.Told.{refused}
 use Rattle.refusal.specs.declared.NormalFormError.{NormalFormError}
 use Rattle.refusal.specs.declared.NormalFormError.TheVariants.{ForeignSurvivors}
-use Rattle.refusal.proofs.Told.{told_refused}
+use Rattle.refusal.proofs.Told.{told_refused, handed_on}
 use Rattle.payoff_tables.specs.Checks.{table_refusal}
 use Rattle.payoff_tables.specs.Answers.{table_answer}
 use Rattle.payoff_tables.proofs.Table.{table_told}
@@ -34,24 +34,24 @@ returns-then-is_foreign c =
     let cs = c.args.counts.now in
     let ps = c.args.payoffs.now in
     let v = c.args.survivors in
-    let checked = table_told cs ps c.in-Ok.profiles c.in-Ok.ensures in
+    let checked = table_told cs ps c.in_ok-profiles.profiles c.in_ok-profiles.ensures in
     let r = kept cs ps v c.args.choices.now c.args.utilities.now ForeignSurvivors (then_foreign cs ps v checked.none_applies (sym c.is_foreign.ensures ∙ c.if-is_foreign.true)) in
     record { result_value = r.0; choices_after = r.1.0; utilities_after = r.1.1 }
 
-pub list_surviving-requires-clause-table : goal.list_surviving-requires-clause-table
-list_surviving-requires-clause-table c = (table_told _ _ _ c.in-Ok.ensures).table
+pub marked_equilibria-requires-clause-table : goal.marked_equilibria-requires-clause-table
+marked_equilibria-requires-clause-table c = (table_told _ _ _ c.in_ok-profiles.ensures).table
 
-pub returns-in-Err : goal.returns-in-Err
-returns-in-Err c =
-    let r = refused_first c.args.counts.now c.args.payoffs.now c.args.survivors c.args.choices.now c.args.utilities.now (number_of c.in-Err.e) c.in-Err.ensures in
-    record { result_value = r.0; choices_after = r.1.0; utilities_after = r.1.1 }
+pub returns-in_err-profiles : goal.returns-in_err-profiles
+returns-in_err-profiles c =
+    let r = refused_first c.args.counts.now c.args.payoffs.now c.args.survivors c.args.choices.now c.args.utilities.now (number_of c.in_err-profiles.field-0.0) c.in_err-profiles.ensures in
+    record { result_value = handed_on _ _ c.from_residual.ensures.1 ∙ r.0; choices_after = r.1.0; utilities_after = r.1.1 }
 
-pub returns-else-is_foreign : goal.returns-else-is_foreign
-returns-else-is_foreign c =
+pub returns : goal.returns
+returns c =
     let cs = c.args.counts.now in
     let ps = c.args.payoffs.now in
     let v = c.args.survivors in
-    let checked = table_told cs ps c.in-Ok.profiles c.in-Ok.ensures in
+    let checked = table_told cs ps c.in_ok-profiles.profiles c.in_ok-profiles.ensures in
     let own = not_foreign cs ps v checked.none_applies (sym c.is_foreign.ensures ∙ c.if-is_foreign.false) in
-    let r = listing_told cs ps (surviving_equilibria cs ps v) c.args.choices.now c.list_surviving.new.choices c.args.utilities.now c.list_surviving.new.utilities (survivors_refusal cs ps v) own c.list_surviving.result c.list_surviving.ensures in
+    let r = listing_told cs ps (surviving_equilibria cs ps v) c.args.choices.now c.marked_equilibria.new.choices c.args.utilities.now c.marked_equilibria.new.utilities (survivors_refusal cs ps v) own c.marked_equilibria.result c.marked_equilibria.ensures in
     record { result_value = r.0; choices_after = r.1.0; utilities_after = r.1.1 }

@@ -5,7 +5,4 @@ use Rattle.survivors.proofs.Marks.{Filled}
 use Rattle.survivors.proofs.all_marked.Given as goal
 
 abbrev pub invariant-loop-i : goal.invariant-loop-i
-invariant-loop-i l = (l.i ≤ max_marks) × Filled l.counts l.i l.marks
-
-abbrev pub decreases-loop-i : goal.decreases-loop-i
-decreases-loop-i l = max_marks - l.i
+invariant-loop-i l = Filled l.counts l.i l.marks

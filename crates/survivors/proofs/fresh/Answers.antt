@@ -1,33 +1,27 @@
--- `survivors::fresh` meets its contract: the space that the check hands back has the table's counts, or none. Assumes nothing.
+-- `survivors::fresh` meets its contract: the space that the check hands back has the table's counts. Assumes nothing.
 use mathlib.Core.Path.{◌≡◌, refl, ap, ◌∙◌}
 use mathlib.Core.List.{List, []}
 use mathlib.Core.Option.{none, some}
-use Prim.Native.Nat.{ℕ}
-use native.Mathlib.Omega.{arith}
-use lib.Ieee.{Float}
-use Rattle.refusal.specs.Refusal.{Refusal}
+use Rattle.refusal.specs.Told.{refused}
+use Rattle.refusal.proofs.Told.{told_values, told_refused}
 use Rattle.payoff_tables.specs.Checks.{table_refusal}
-use Rattle.table.specs.Space.{space_of, space_unless}
-use Rattle.table.specs.declared.StrategySpace.{StrategySpace}
+use Rattle.table.specs.Space.{space_of}
 use Rattle.payoff_tables.proofs.Checks.{table_law}
-use Rattle.survivors.specs.declared.Survivors.{Survivors}
-use Rattle.refusal.specs.Told.{unless_refused}
-use Rattle.survivors.specs.Survivors.{all_marks, fresh_of, no_survivors}
+use Rattle.survivors.specs.Survivors.{all_marks}
 use Rattle.survivors.proofs.Marks.{fresh_is}
 use Rattle.survivors.proofs.fresh.Goals as goal
 
--- the survivors of the space beside a check's answer
-made : (counts : List ℕ) (payoffs : List Float) (r : Refusal) → table_refusal counts payoffs ≡ r → (w : StrategySpace) → w ≡ space_unless r counts
-    → (v : Survivors) → (v.players ≡ w.players) × (v.counts ≡ w.counts) × (v.marks ≡ all_marks w.counts)
-    → v ≡ unless_refused r (fresh_of counts) no_survivors
+pub returns-in-Ok : goal.returns-in-Ok
 unfolding space_of
-made counts payoffs none h w e v (a, b, d) =
-    fresh_is counts v ((table_law counts payoffs).0 h).shape.few (a ∙ ap (λ w. w.players) e) (b ∙ ap (λ w. w.counts) e) (d ∙ ap (λ w. all_marks w.counts) e)
-made counts payoffs (some x) h w e v (a, b, d) =
-    fresh_is [] v (omega arith) (a ∙ ap (λ w. w.players) e) (b ∙ ap (λ w. w.counts) e) (d ∙ ap (λ w. all_marks w.counts) e)
+returns-in-Ok c =
+    let cs = c.args.counts.now in
+    let t = told_values (table_refusal cs c.args.payoffs.now) (space_of cs) c.in-Ok.space c.in-Ok.ensures in
+    let (a, b, d) = c.all_marked.ensures in
+    let is = fresh_is cs c.all_marked.result ((table_law cs c.args.payoffs.now).0 t.0).shape.few
+    (a ∙ ap (λ w. w.players) t.1) (b ∙ ap (λ w. w.counts) t.1) (d ∙ ap (λ w. all_marks w.counts) t.1) in
+    rw t.0 record { answer_value = refl; survivors_value = is }
 
-pub returns : goal.returns
-returns c =
-    let a = c.args in
-    let e = c.payoff_matrix-checked.ensures in
-    record { answer_value = e.answer_value; survivors_value = made a.counts.now a.payoffs.now _ refl c.payoff_matrix-checked.result.space e.space_value c.all_marked.result c.all_marked.ensures }
+pub returns-in-Err : goal.returns-in-Err
+returns-in-Err c =
+    let t = told_refused (table_refusal c.args.counts.now c.args.payoffs.now) _ _ c.in-Err.ensures in
+    rw t.1 record { answer_value = ap refused t.2; survivors_value = c.none.ensures }

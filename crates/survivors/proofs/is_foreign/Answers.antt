@@ -25,7 +25,7 @@ returns-then-survivors-counts c =
     sym (not_own s.args.counts.now s.args.survivors (λ o. c.if-survivors-counts.true o.players_agree))
 
 pub loop-p-init : goal.loop-p-init
-loop-p-init c = (omega arith, own_start _ _ _)
+loop-p-init c = own_start _ _ _
 
 pub marked_from-requires : goal.marked_from-requires
 marked_from-requires c = record { marks_len = search rules; player_lt_max_players = c.loop-p-test.true }
@@ -53,14 +53,12 @@ returns-then-marked_from c =
 pub loop-p-preserved : goal.loop-p-preserved
 loop-p-preserved c =
     let j = c in
-    let l = j in (
-      omega (arith, l.loop-p-test),
-      own_more l.args.counts.now l.args.survivors.counts l.args.survivors.marks l.loop-p.p l.loop-p.invariant.1 (c.if-held-p.false ∙ count-is (goal.at.loop-p-preserved j).Joined-p-counts) (has-mark (goal.at.loop-p-preserved j).Joined-p-counts)
-          (λ h. subst T (sym c.marked_from-in-loop-p.ensures ∙ c.if-marked_from.false) (subst⁻¹ (λ (n : ℕ). T (marked_from (marked l.args.survivors.marks) l.loop-p.p n)) (count-is (goal.at.loop-p-preserved j).Joined-p-counts) h)),
-    )
+    let l = j in
+    own_more l.args.counts.now l.args.survivors.counts l.args.survivors.marks l.loop-p.p l.loop-p.invariant (c.if-held-p.false ∙ count-is (goal.at.loop-p-preserved j).Joined-p-counts) (has-mark (goal.at.loop-p-preserved j).Joined-p-counts)
+    (λ h. subst T (sym c.marked_from-in-loop-p.ensures ∙ c.if-marked_from.false) (subst⁻¹ (λ (n : ℕ). T (marked_from (marked l.args.survivors.marks) l.loop-p.p n)) (count-is (goal.at.loop-p-preserved j).Joined-p-counts) h))
 
 pub returns : goal.returns
 returns c =
     let s = c in
     foreign_past s.args.counts.now s.args.survivors (search rules) (λ few.
-    own_all s.args.counts.now s.args.survivors c.loop-p.p c.loop-p-test.false few c.if-survivors-counts.false c.loop-p.invariant.1)
+    own_all s.args.counts.now s.args.survivors c.loop-p.p c.loop-p-test.false few c.if-survivors-counts.false c.loop-p.invariant)

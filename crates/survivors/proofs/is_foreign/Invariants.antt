@@ -6,7 +6,4 @@ use Rattle.survivors.proofs.Foreign.{OwnTo}
 use Rattle.survivors.proofs.is_foreign.Given as goal
 
 abbrev pub invariant-loop-p : goal.invariant-loop-p
-invariant-loop-p l = (l.p ≤ max_players) × OwnTo l.counts l.held l.marks l.p
-
-abbrev pub decreases-loop-p : goal.decreases-loop-p
-decreases-loop-p l = max_players - l.p
+invariant-loop-p l = OwnTo l.counts l.held l.marks l.p

@@ -33,7 +33,7 @@ pub overflow_mul-place : goal.overflow_mul-place
 overflow_mul-place c = omega (arith, c.requires.player_lt_max_players)
 
 pub loop-s-init : goal.loop-s-init
-loop-s-init c = (omega arith, λ t h k. absurd (omega arith))
+loop-s-init c = λ t h k. absurd (omega arith)
 
 pub overflow_add-place : goal.overflow_add-place
 overflow_add-place c = omega (arith, inside (goal.at.overflow_add-place c).In-loop-s)
@@ -45,21 +45,19 @@ pub returns-then-marks-place : goal.returns-then-marks-place
 returns-then-marks-place c =
     let l = c in
     sym (test_true _ ((marked_from_law (marked (marks (goal.at.returns-then-marks-place l).In-loop-s)) (player (goal.at.returns-then-marks-place l).In-loop-s) l.args.from).1
-    (l.loop-s.s, l.loop-s.invariant.0, l.loop-s-test.true, subst T (sym (read (goal.at.returns-then-marks-place l).In-loop-s ∙ c.if-marks-place.true)) tt)))
+    (l.loop-s.s, l.loop-s.auto.s, l.loop-s-test.true, subst T (sym (read (goal.at.returns-then-marks-place l).In-loop-s ∙ c.if-marks-place.true)) tt)))
 
 pub loop-s-preserved : goal.loop-s-preserved
 loop-s-preserved c =
     let l = c in
-    let i = l.loop-s.invariant in (
-      omega arith,
-      λ t h k m.
-          ⊎_elim (λ (e : t ≡ l.loop-s.s). subst T (read (goal.at.loop-s-preserved l).In-loop-s ∙ c.if-marks-place.false) (rw e at m)) (λ (b : t < l.loop-s.s). i.1 t h b m)
-          (eq-or-lt_of_le (let q : t ≤ l.loop-s.s = omega arith in q)),
-    )
+    let i = l.loop-s.invariant in
+    λ t h k m.
+    ⊎_elim (λ (e : t ≡ l.loop-s.s). subst T (read (goal.at.loop-s-preserved l).In-loop-s ∙ c.if-marks-place.false) (rw e at m)) (λ (b : t < l.loop-s.s). i t h b m)
+    (eq-or-lt_of_le (let q : t ≤ l.loop-s.s = omega arith in q))
 
 pub returns : goal.returns
 returns c =
     let s = c.args in
     sym (test_false _ (λ h.
     let (t, a, b, m) = (marked_from_law (marked s.marks.now) s.player s.from).0 h in
-    c.loop-s.invariant.1 t a (omega (arith, b, c.loop-s-test)) m))
+    c.loop-s.invariant t a (omega (arith, b, c.loop-s-test)) m))

@@ -6,7 +6,4 @@ use Rattle.marks.specs.Marks.{marked}
 use Rattle.survivors.proofs.marked_from.Given as goal
 
 abbrev pub invariant-loop-s : goal.invariant-loop-s
-invariant-loop-s l = (l.from ≤ l.s) × ((t : ℕ) → l.from ≤ t → t < l.s → T (marked l.marks l.player t) → ⊥)
-
-abbrev pub decreases-loop-s : goal.decreases-loop-s
-decreases-loop-s l = max_strategies - l.s
+invariant-loop-s l = ((t : ℕ) → l.from ≤ t → t < l.s → T (marked l.marks l.player t) → ⊥)

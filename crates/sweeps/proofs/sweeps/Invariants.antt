@@ -6,8 +6,9 @@ use Rattle.survivors.specs.Survivors.{mark_count}
 use Rattle.sweeps.proofs.Runs.{After}
 use Rattle.sweeps.proofs.sweeps.Given as goal
 
-abbrev pub invariant-loop-any : goal.invariant-loop-any
-invariant-loop-any l = (l.profiles ≡ product l.counts) × After l.counts l.payoffs l.initial.struck l.end l.any l.survivors l.struck
+abbrev pub invariant-loop-progress : goal.invariant-loop-progress
+invariant-loop-progress l =
+    let p = l.progress in (l.table.profiles ≡ product l.counts) × After l.counts l.payoffs l.initial.struck p.end p.any p.survivors l.struck
 
-abbrev pub decreases-loop-any : goal.decreases-loop-any
-decreases-loop-any l = mark_count l.survivors + cond l.any 1 0
+abbrev pub decreases-loop-progress : goal.decreases-loop-progress
+decreases-loop-progress l = mark_count l.progress.survivors + cond l.progress.any 1 0

@@ -4,12 +4,6 @@ use mathlib.Core.Path.{◌∙◌}
 use Rattle.payoff_tables.proofs.Game.{cells_greater}
 use Rattle.table.proofs.exceeds.Goals as goal
 
-pub of_finite-mine-requires : goal.of_finite-mine-requires
-of_finite-mine-requires c = search (c.requires.finites, c.requires.cell_in_bounds)
-
-pub of_finite-requires : goal.of_finite-requires
-of_finite-requires c = search (c.requires.finites, c.requires.cell_in_bounds)
-
 pub returns : goal.returns
 returns c =
     c.exceeds.ensures

@@ -7,8 +7,9 @@ use Prim.Native.Nat.{ℕ, ◌+◌, ◌*◌, ◌<◌, ◌≤◌}
 use native.Mathlib.Omega.{arith}
 use lib.ListN.{length, get_or}
 use lib.Ieee.{Float, nan}
-use Rattle.refusal.specs.Told.{values}
-use Rattle.refusal.proofs.Told.{told_values, refused_again, refused_first}
+use Rattle.refusal.specs.Told.{values, told_of}
+use Rattle.utility.specs.Value.{value_of}
+use Rattle.refusal.proofs.Told.{told_values, refused_again, handed_on}
 use Rattle.utility.proofs.Made.{finite_told}
 use Rattle.payoff_tables.specs.Limits.{max_cells}
 use Rattle.payoff_tables.specs.Table.{offset, cell, payoff_at}
@@ -17,10 +18,10 @@ use Rattle.payoff_tables.specs.Meaning.{Table}
 use Rattle.payoff_tables.proofs.Checks.{table_counts, table_law, player_law, no_player, profile_law}
 use Rattle.payoff_tables.proofs.Offsets.{cell_below}
 use Rattle.table.proofs.payoff.Goals as goal
-use Rattle.table.proofs.payoff.Goals.{In-Ok, In-Ok-profile_offset}
+use Rattle.table.proofs.payoff.Goals.{In_ok-table_profile_count, In_ok-at}
 
--- the arm where the table has no refusal
-module _ (c : In-Ok) where
+-- where the table has no refusal
+module _ (c : In_ok-table_profile_count) where
   abbrev counts : List ℕ
   counts = c.args.counts.now
 
@@ -28,19 +29,19 @@ module _ (c : In-Ok) where
   payoffs = c.args.payoffs.now
 
   checked : table_refusal counts payoffs ≡ none
-  checked = (told_values _ _ _ c.in-Ok.ensures).0
+  checked = (told_values _ _ _ c.in_ok-table_profile_count.ensures).0
 
   table : Table counts payoffs
   table = (table_law counts payoffs).0 checked
 
 pub returns-then-counts-player : goal.returns-then-counts-player
-returns-then-counts-player c = rw (checked (goal.at.returns-then-counts-player c).In-Ok, no_player (counts (goal.at.returns-then-counts-player c).In-Ok) _ c.if-counts-player.true)
+returns-then-counts-player c = rw (checked (goal.at.returns-then-counts-player c).In_ok-table_profile_count, no_player (counts (goal.at.returns-then-counts-player c).In_ok-table_profile_count) _ c.if-counts-player.true)
 
 pub profile_offset-requires : goal.profile_offset-requires
-profile_offset-requires c = table_counts _ _ (checked (goal.at.profile_offset-requires c).In-Ok)
+profile_offset-requires c = table_counts _ _ (checked (goal.at.profile_offset-requires c).In_ok-table_profile_count)
 
--- the arm where the profile has none either
-module _ (c : In-Ok-profile_offset) where
+-- where the profile has none either
+module _ (c : In_ok-at) where
   abbrev cs : List ℕ
   cs = c.args.counts.now
 
@@ -54,16 +55,16 @@ module _ (c : In-Ok-profile_offset) where
   player = c.args.player
 
   abbrev place : ℕ
-  place = c.in-Ok-profile_offset.at * length cs + player
+  place = c.in_ok-at.at * length cs + player
 
   checks : table_refusal cs xs ≡ none
-  checks = (told_values _ _ _ c.in-Ok.ensures).0
+  checks = (told_values _ _ _ c.in_ok-table_profile_count.ensures).0
 
   full_table : Table cs xs
   full_table = (table_law cs xs).0 checks
 
-  told : (profile_refusal cs profile ≡ none) × (c.in-Ok-profile_offset.at ≡ offset cs profile)
-  told = told_values _ _ _ c.in-Ok-profile_offset.ensures
+  told : (profile_refusal cs profile ≡ none) × (c.in_ok-at.at ≡ offset cs profile)
+  told = told_values _ _ _ c.in_ok-at.ensures
 
   mine : player < length cs
   mine = c.if-counts-player.false
@@ -76,31 +77,28 @@ module _ (c : In-Ok-profile_offset) where
       let full = full_table.full in (rw (here, full) (cell_below player ((profile_law cs profile).0 told.0) mine), rw full full_table.shape.room)
 
 pub overflow_mul-at : goal.overflow_mul-at
-overflow_mul-at c = omega (arith, within (goal.at.overflow_mul-at c).In-Ok-profile_offset)
+overflow_mul-at c = omega (arith, within (goal.at.overflow_mul-at c).In_ok-at)
 
 pub overflow_add-at : goal.overflow_add-at
-overflow_add-at c = omega (arith, within (goal.at.overflow_add-at c).In-Ok-profile_offset)
+overflow_add-at c = omega (arith, within (goal.at.overflow_add-at c).In_ok-at)
 
 pub offset_bounds-payoffs-at : goal.offset_bounds-payoffs-at
-offset_bounds-payoffs-at c = omega (arith, within (goal.at.offset_bounds-payoffs-at c).In-Ok-profile_offset)
+offset_bounds-payoffs-at c = omega (arith, within (goal.at.offset_bounds-payoffs-at c).In_ok-at)
 
 pub bounds-payoffs-at : goal.bounds-payoffs-at
-bounds-payoffs-at c = (within (goal.at.bounds-payoffs-at c).In-Ok-profile_offset).0
+bounds-payoffs-at c = (within (goal.at.bounds-payoffs-at c).In_ok-at).0
 
-pub returns-in-Err : goal.returns-in-Err
-returns-in-Err c =
-    refused_first (table_refusal c.args.counts.now c.args.payoffs.now) _ _ _ c.in-Err.ensures _
-
-pub returns-in-Err-profile_offset : goal.returns-in-Err-profile_offset
-returns-in-Err-profile_offset c =
-    let w = (goal.at.returns-in-Err-profile_offset c).In-Ok in
+pub returns-in_err-at : goal.returns-in_err-at
+returns-in_err-at c =
+    let w = (goal.at.returns-in_err-at c).In_ok-table_profile_count in
     rw (checked w, (player_law (counts w) _).1 c.if-counts-player.false)
-    (refused_again (profile_refusal (counts w) c.args.profile.now) _ _ _ c.in-Err-profile_offset.ensures)
+    (ap (told_of value_of) (handed_on _ _ c.from_residual-in_err-at.ensures.1)
+    ∙ refused_again (profile_refusal (counts w) c.args.profile.now) _ _ _ c.in_err-at.ensures)
 
-pub returns-in-Ok-profile_offset : goal.returns-in-Ok-profile_offset
+pub returns : goal.returns
 unfolding payoff_at
-returns-in-Ok-profile_offset c =
-    let w = (goal.at.returns-in-Ok-profile_offset c).In-Ok-profile_offset in
+returns c =
+    let w = (goal.at.returns c).In_ok-at in
     let fits = (full_table w).finites _ (within w).0 in
     rw (checks w, (player_law (cs w) (player w)).1 (mine w), (told w).0)
     (c.new.ensures ∙ finite_told _ fits ∙ ap (λ (n : ℕ). values (get_or (xs w) n nan)) (here w))

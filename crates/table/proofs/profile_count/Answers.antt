@@ -11,43 +11,38 @@ returns-then-players-eq0 c = rw (no_players _ c.if-players-eq0.true)
 pub returns-then-players-gt-MAX_PLAYERS : goal.returns-then-players-gt-MAX_PLAYERS
 returns-then-players-gt-MAX_PLAYERS c = rw (many_players _ c.if-players-gt-MAX_PLAYERS.true)
 
-pub loop-p-init : goal.loop-p-init
-loop-p-init c = (omega arith, omega arith, omega arith, λ q h. absurd (omega arith))
-
 pub returns-then-count-eq0 : goal.returns-then-count-eq0
 returns-then-count-eq0 c =
-    let l = c.loop-p in
-    rw (bad_count c.args.counts.now l.p _ (omega arith) c.loop-p-test.true l.invariant.3 (count_zero _ c.if-count-eq0.true))
+    let l = c.loop-count in
+    rw (bad_count c.args.counts.now l.count-index _ (omega arith) (omega arith) l.invariant.2 (count_zero _ c.if-count-eq0.true))
 
 pub returns-then-count-gt-MAX_STRATEGIES : goal.returns-then-count-gt-MAX_STRATEGIES
 returns-then-count-gt-MAX_STRATEGIES c =
-    let l = c.loop-p in
-    rw (bad_count c.args.counts.now l.p _ (omega arith) c.loop-p-test.true l.invariant.3 (count_over _ c.if-count-gt-MAX_STRATEGIES.true))
+    let l = c.loop-count in
+    rw (bad_count c.args.counts.now l.count-index _ (omega arith) (omega arith) l.invariant.2 (count_over _ c.if-count-gt-MAX_STRATEGIES.true))
 
 pub overflow_mul-profiles : goal.overflow_mul-profiles
-overflow_mul-profiles c = let l = c.loop-p in omega (arith, power_cap l.profiles _ l.p l.invariant.1 (omega arith) c.if-count-gt-MAX_STRATEGIES.false)
+overflow_mul-profiles c = let l = c.loop-count in omega (arith, power_cap l.profiles _ l.count-index l.invariant.0 (omega arith) c.if-count-gt-MAX_STRATEGIES.false)
 
-pub loop-p-preserved : goal.loop-p-preserved
-loop-p-preserved c =
-    let l = c.loop-p in
-    let h = c.loop-p-test.true in (
-      omega arith,
-      power_more l.profiles _ l.p l.invariant.1 c.if-count-gt-MAX_STRATEGIES.false,
-      product_more _ l.p l.profiles _ h l.invariant.2,
-      below_more _ _ l.invariant.3 (count_fits _ (omega arith) c.if-count-gt-MAX_STRATEGIES.false),
+pub loop-count-preserved : goal.loop-count-preserved
+loop-count-preserved c =
+    let l = c.loop-count in (
+      power_more l.profiles _ l.count-index l.invariant.0 c.if-count-gt-MAX_STRATEGIES.false,
+      product_more _ l.count-index l.profiles _ (omega arith) l.invariant.1,
+      below_more _ _ l.invariant.2 (count_fits _ (omega arith) c.if-count-gt-MAX_STRATEGIES.false),
     )
 
 pub overflow_mul-profiles-2 : goal.overflow_mul-profiles-2
-overflow_mul-profiles-2 c = let l = c.loop-p in omega (arith, power_cap l.profiles (length c.args.counts.now) l.p l.invariant.1 (omega arith) (omega arith))
+overflow_mul-profiles-2 c = let l = c.loop-count in omega (arith, power_cap l.profiles (length c.args.counts.now) l.count-index l.invariant.0 (omega arith) (omega arith))
 
 pub returns-then-profiles-players-gt-MAX_CELLS : goal.returns-then-profiles-players-gt-MAX_CELLS
 returns-then-profiles-players-gt-MAX_CELLS c =
-    let l = c.loop-p in
-    let e = product_end _ l.p l.profiles (omega arith) l.invariant.2 in
-    rw (many_cells c.args.counts.now (omega arith) (omega arith) (λ q h. l.invariant.3 q (omega arith)) (rw e at c.if-profiles-players-gt-MAX_CELLS.true))
+    let l = c.loop-count in
+    let e = product_end _ l.count-index l.profiles (omega arith) l.invariant.1 in
+    rw (many_cells c.args.counts.now (omega arith) (omega arith) (λ q h. l.invariant.2 q (omega arith)) (rw e at c.if-profiles-players-gt-MAX_CELLS.true))
 
 pub returns : goal.returns
 returns c =
-    let l = c.loop-p in
-    let e = product_end _ l.p l.profiles (omega arith) l.invariant.2 in
-    rw (counts_fit c.args.counts.now (omega arith) (omega arith) (λ q h. l.invariant.3 q (omega arith)) (rw e at c.if-profiles-players-gt-MAX_CELLS.false), e)
+    let l = c.loop-count in
+    let e = product_end _ l.count-index l.profiles (omega arith) l.invariant.1 in
+    rw (counts_fit c.args.counts.now (omega arith) (omega arith) (λ q h. l.invariant.2 q (omega arith)) (rw e at c.if-profiles-players-gt-MAX_CELLS.false), e)

@@ -6,11 +6,9 @@ use Prim.Native.Nat.{ℕ, ◌+◌, ◌*◌, ◌-◌}
 use native.Mathlib.Omega.{arith}
 use lib.ListN.{length, take, drop}
 use lib.Ieee.{Float}
-use Rattle.refusal.specs.Refusal.{Refusal, ◌then◌}
+use Rattle.refusal.specs.Refusal.{Refusal}
 use Rattle.refusal.specs.Told.{unless_refused}
-use Rattle.refusal.proofs.Told.{told_refused}
 use Rattle.payoff_tables.specs.Table.{profile_part}
-use Rattle.payoff_tables.specs.Checks.{table_refusal, profile_refusal}
 use Rattle.payoff_tables.proofs.Table.{PartTold, part_told}
 use Rattle.table.proofs.profile_payoffs.Goals as goal
 use Rattle.table.proofs.profile_payoffs.Goals.{In-Ok}
@@ -43,13 +41,6 @@ offset_bounds-payoffs-start c = omega (arith, told (goal.at.offset_bounds-payoff
 
 pub slice_bounds-result-end-in-Ok : goal.slice_bounds-result-end-in-Ok
 slice_bounds-result-end-in-Ok c = (told (goal.at.slice_bounds-result-end-in-Ok c).In-Ok).within
-
-pub returns-in-Err : goal.returns-in-Err
-returns-in-Err c =
-    let a = c.args in
-    let t = told_refused (table_refusal a.counts.now a.payoffs.now then profile_refusal a.counts.now a.profile.now) _ _
-    c.in-Err.ensures in
-    record { result_value = rw t.1; ref_ptr_value = refl; ref_ptr_value_2 = rw t.1 (omega arith) }
 
 pub returns-in-Ok : goal.returns-in-Ok
 unfolding profile_part

@@ -5,7 +5,7 @@ use Prim.Native.Nat.{ℕ, ◌+◌, ◌≤◌, ◌<◌}
 use native.Mathlib.Omega.{arith}
 use lib.ListN.{length, get_or}
 use Rattle.game.specs.Game.{Strategy, strategy}
-use Rattle.refusal.specs.Told.{told_usize, tells}
+use Rattle.refusal.specs.Told.{told, tells}
 use Rattle.strike_chains.specs.Answers.{calls_of}
 use Rattle.strike_chains.proofs.Written.{calls_length, calls_at}
 use Rattle.test_strikes_and_listings.proofs.Calls.{Far, far_none, far_more, far_all}
@@ -17,11 +17,11 @@ module _ (l : At-loop-i) where
   calls = calls_of l.args.players.now l.args.strategies.now
 
   -- as many calls as the shorter list has
-  lists : (length calls ≡ l.lesser-number.result) × (length calls ≤ length l.args.players.now) × (length calls ≤ length l.args.strategies.now)
-  lists = let e = calls_length l.args.players.now l.args.strategies.now in (omega (arith, e, l.lesser-number.ensures), omega (arith, e), omega (arith, e))
+  lists : (length calls ≡ l.min-number.result) × (length calls ≤ length l.args.players.now) × (length calls ≤ length l.args.strategies.now)
+  lists = let e = calls_length l.args.players.now l.args.strategies.now in (omega (arith, e, l.min-number.ensures), omega (arith, e), omega (arith, e))
 
 -- the call that is made
-under : (n : In-loop-i) → length (calls_of n.args.players.now n.args.strategies.now) ≡ n.lesser-number.result → n.loop-i.i < length (calls_of n.args.players.now n.args.strategies.now)
+under : (n : In-loop-i) → length (calls_of n.args.players.now n.args.strategies.now) ≡ n.min-number.result → n.loop-i.i < length (calls_of n.args.players.now n.args.strategies.now)
 under n e = omega (arith, n.loop-i-test, e)
 
 pub loop-i-init : goal.loop-i-init
@@ -29,7 +29,7 @@ loop-i-init c = far_none c.args.counts.now c.args.payoffs.now c.args.survivors (
 
 pub overflow_add-accepted : goal.overflow_add-accepted
 overflow_add-accepted c =
-    omega (arith, c.loop-i.invariant.few, c.loop-i-test.true, c.one_if_accepted-accepted.ensures, one (tells (told_usize c.strike-struck.result.answer)))
+    omega (arith, c.loop-i.invariant.few, c.loop-i-test.true, c.one_if_accepted-accepted.ensures, one (tells (told c.strike-struck.result.answer)))
   where
     one : (t : Bool) → cond t 1 0 ≤ 1
     one true = omega arith

@@ -1,6 +1,6 @@
 -- `text::put_decimal` meets its contract. Assumes nothing.
 use mathlib.Core.Path.{◌∙◌}
-use Rattle.outputs.proofs.Put.{puts_same}
+use Rattle.outputs.proofs.Puts.{puts_same}
 use Rattle.digits_and_lines.proofs.Digits.{decimal_fewest}
 use Rattle.text.proofs.put_decimal.Goals as goal
 

@@ -1,7 +1,7 @@
 -- `text::put_hexadecimal` meets its contract. Assumes nothing.
 use mathlib.Core.Path.{◌∙◌}
 use native.Mathlib.Omega.{arith}
-use Rattle.outputs.proofs.Put.{puts_same}
+use Rattle.outputs.proofs.Puts.{puts_same}
 use Rattle.digits_and_lines.proofs.Digits.{hexadecimal_fewest}
 use Rattle.text.proofs.put_hexadecimal.Goals as goal
 

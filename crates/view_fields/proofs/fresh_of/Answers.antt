@@ -1,19 +1,16 @@
 -- `view_fields::fresh_of` meets its contract: more players than the limit are refused by 2, with the survivors of no players, and else the counts
 -- that are lent are the view's first. Assumes nothing.
 use mathlib.Core.Path.{refl, sym}
-use mathlib.Core.List.{[]}
 use native.Mathlib.Omega.{arith}
 use lib.Seq.{length-take-le}
-use Rattle.survivors.proofs.Marks.{fresh_is}
 use Rattle.view_fields.proofs.Laws.{first_counts_take, first_counts_many}
 use Rattle.view_fields.proofs.fresh_of.Goals as goal
 
 pub returns-then-players-gt-MAX_PLAYERS : goal.returns-then-players-gt-MAX_PLAYERS
 returns-then-players-gt-MAX_PLAYERS c =
     let a = c.args in
-    let e = c.all_marked.ensures in
     rw (first_counts_many a.players a.counts a.payoffs.now c.if-players-gt-MAX_PLAYERS.true)
-    record { answer_value = refl; survivors_value = fresh_is [] c.all_marked.result (omega arith) e.0 e.1 e.2 }
+    record { answer_value = refl; survivors_value = c.none.ensures }
 
 pub slice_bounds-fresh-end : goal.slice_bounds-fresh-end
 slice_bounds-fresh-end c = sym (length-take-le c.args.players c.args.counts (omega arith))

@@ -1,4 +1,5 @@
--- `words::due` meets its contract: a place below a quarter of the length is a word's. Assumes nothing.
+-- `words::due` meets its contract: a place below a quarter of the length is a word's. Assumes
+-- nothing.
 use mathlib.Core.Path.{refl, sym, ap, ◌∙◌}
 use Prim.Native.Nat.{ℕ, ◌/◌, ◌^◌}
 use Rattle.file_words.proofs.Words.{payload_here}

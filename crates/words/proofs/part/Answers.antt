@@ -1,4 +1,5 @@
--- `words::part` meets its contract: the word that is due is its kind times 2^30 and its payload. Assumes nothing.
+-- `words::part` meets its contract: the word that is due is its kind times 2^30 and its payload.
+-- Assumes nothing.
 use mathlib.Core.Path.{◌≡◌, sym, ◌∙◌}
 use mathlib.Core.List.{List}
 use mathlib.Core.Option.{none}

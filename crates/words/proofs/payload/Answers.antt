@@ -1,4 +1,5 @@
--- `words::payload` meets its contract: the remainder by 2^30 is the payload, and past the last word the list of words has 0. Assumes nothing.
+-- `words::payload` meets its contract: the remainder by 2^30 is the payload, and past the last word
+-- the list of words has 0. Assumes nothing.
 use Rattle.file_words.proofs.Words.{payload_here, payload_none}
 use Rattle.words.proofs.payload.Goals as goal
 

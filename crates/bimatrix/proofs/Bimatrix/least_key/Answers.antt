@@ -1,6 +1,6 @@
 -- `bimatrix::Bimatrix::least_key` meets its contract: the four keys are those of the definition's four tables. Assumes nothing.
-use mathlib.Core.Path.{ap, ap₂, ◌∙◌}
-use Prim.Native.Nat.{min}
+use mathlib.Core.Path.{ap, ◌∙◌}
+use native.Mathlib.Omega.{arith}
 use Rattle.bimatrix.specs.Matrices.{swap_rows, both}
 use Rattle.bimatrix.specs.Keys.{key, least_key}
 use Rattle.bimatrix.proofs.Bimatrix.least_key.Goals as goal
@@ -8,11 +8,7 @@ use Rattle.bimatrix.proofs.Bimatrix.least_key.Goals as goal
 pub returns : goal.returns
 unfolding least_key
 returns c =
-    let k = c in
-    let m = k in
-    let self-key = k.key-4.ensures in
-    let both-key = k.key-3.ensures ∙ ap key (m.swap_rows-both.ensures ∙ ap (both swap_rows) m.swap_columns-columns.ensures) in
-    let columns-key = k.key-2.ensures ∙ ap key m.swap_columns-columns.ensures in
-    let rows-key = k.key.ensures ∙ ap key m.swap_rows-rows.ensures in
-    c.lower-3.ensures
-    ∙ ap₂ min rows-key (c.lower-2.ensures ∙ ap₂ min columns-key (c.lower.ensures ∙ ap₂ min both-key self-key))
+    let both-key = c.key-4.ensures ∙ ap key (c.swap_rows-both.ensures ∙ ap (both swap_rows) c.swap_columns-columns.ensures) in
+    let columns-key = c.key-3.ensures ∙ ap key c.swap_columns-columns.ensures in
+    let rows-key = c.key-2.ensures ∙ ap key c.swap_rows-rows.ensures in
+    omega (arith, c.min.ensures, c.min-2.ensures, c.min-3.ensures)

@@ -2,7 +2,7 @@
 -- `response_list`'s `Delivered.antt`'s. Assumes nothing.
 use mathlib.Core.Path.{ap, ◌∙◌}
 use borrow.Author.Rules.{rules}
-use Rattle.refusal.specs.Told.{told_usize}
+use Rattle.refusal.specs.Told.{told}
 use Rattle.response_list.proofs.Delivered.{number_few, number_fits, delivered}
 use Rattle.view.specs.Matrix.{counts_of}
 use Rattle.view.proofs.PayoffMatrix.best_responses.Goals as goal
@@ -19,7 +19,7 @@ write_list-requires c =
 pub returns : goal.returns
 returns c =
     let e = c.responses_of-found.ensures in (
-      ap told_usize c.write_list.ensures.0 ∙ e.answer_value,
+      ap told c.write_list.ensures.0 ∙ e.answer_value,
       c.write_list.ensures.1
           ∙ delivered (counts_of c.args.self) c.args.self.payoffs.now c.args.player c.args.opponents.now _ c.responses_of-found.result e.answer_value
           e.number_value e.records_value c.args.out.now,

@@ -1,0 +1,2 @@
+-- The proofs of this crate that are not of one function.
+mod Written
