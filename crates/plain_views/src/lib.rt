@@ -2,13 +2,14 @@
 // contract here names a view or a lent list of records.
 #![tactic(auto)]
 
-ghost use Rattle.std.specs.Prelude.{◌≡◌, length};
+ghost use Rattle.std.specs.Prelude.{◌≡◌, [], length};
+ghost use Rattle.std.specs.Result.{result_unwrap_or};
 ghost use Rattle.game.specs.Game.{strategy as named};
 ghost use Rattle.refusal.specs.Told.{told, unless, unless_refused};
 ghost use Rattle.written_lists.specs.Outputs.{over};
 ghost use Rattle.payoff_tables.specs.Limits.{max_strategies};
 ghost use Rattle.payoff_tables.specs.Checks.{table_refusal};
-ghost use Rattle.table.specs.Space.{space_of};
+ghost use Rattle.table.specs.Space.{space_of, space_unless};
 ghost use Rattle.equilibria.specs.Answers.{is_equilibrium_answer, equilibria_answer, equilibria_choices, equilibria_utilities};
 ghost use Rattle.dominance.specs.Answers.{strategies_of, dominators_of, dominated_answer, dominated_written};
 ghost use Rattle.survivors.specs.Survivors.{fresh_of, no_survivors};
@@ -25,7 +26,8 @@ use view::PayoffMatrix;
 
 // The view's `new`: P and the counts that the view has, or the refusal.
 pub fn matrix_new(counts: &[usize], payoffs: &[f64]) -> Result<StrategySpace, NormalFormError>
-    ensures { told result ≡ unless (table_refusal counts.now payoffs.now) (space_of counts.now) }
+    ensures told { told result ≡ unless (table_refusal counts.now payoffs.now) (space_of counts.now) }
+    ensures space_value { result_unwrap_or result (space_of []) ≡ space_unless (table_refusal counts.now payoffs.now) counts.now }
 {
     let matrix = PayoffMatrix::new(counts, payoffs)?;
     let players = matrix.players;

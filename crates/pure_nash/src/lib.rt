@@ -18,6 +18,7 @@ ghost use Rattle.marks.specs.Marks.{marked};
 ghost use Rattle.equilibria.specs.Answers.{Wrote, is_equilibrium_answer, equilibria_answer, equilibria_choices, equilibria_utilities};
 ghost use Rattle.response_marks.specs.Marks.{settled};
 ghost use Rattle.mark_responses.specs.Sweep.{Ready};
+ghost use Rattle.pure_nash.specs.Sizes.{array_bytes};
 ghost use Rattle.response_marks.specs.Answers.{from_marks_answer, from_marks_choices, from_marks_utilities};
 
 use refusal::{Listed, NormalFormError};
@@ -27,9 +28,9 @@ use table::{MAX_CELLS, MAX_MARKS, MAX_STRATEGIES};
 
 // A table of at most so many cells is marked in an array of as many bytes, and any other in one of
 // the most: so a small table clears and holds on the stack hardly more than it needs.
-const SMALL_CELLS: usize = 64;
+pub const SMALL_CELLS: usize = 64;
 
-const MIDDLE_CELLS: usize = 2048;
+pub const MIDDLE_CELLS: usize = 2048;
 
 // How many equilibria there are among the marks of strategies, and how many of them are written:
 // the first that both outputs hold whole, in profile order, P choices of each into `choices`, and P
@@ -57,8 +58,9 @@ fn list_swept(
     profile_listing::list_marked(counts, payoffs, marks, profiles, choices, utilities)
 }
 
-// The same with `BYTES` bytes of its own, for a table of at most so many cells, which the caller
-// proves. It is not inlined, so that each size has its bytes in a frame of its own.
+// The same with `BYTES` bytes of its own, for a table of at most so many cells, and of more than the
+// next smaller size, both of which the caller proves. It is not inlined, so that each size has its
+// bytes in a frame of its own.
 #[inline(never)]
 fn list_in<const BYTES: usize>(
     counts: &[usize],
@@ -72,6 +74,7 @@ fn list_in<const BYTES: usize>(
     requires survivors_len { length survivors.now ≡ max_marks }
     requires profiles_value { profiles ≡ product counts.now }
     requires payoffs_in_bounds { (length payoffs.now ≤ BYTES) × (BYTES ≤ max_cells) }
+    requires bytes { BYTES ≡ array_bytes (length payoffs.now) }
     ensures { Wrote counts.now payoffs.now (equilibria (table_game counts.now payoffs.now) (marked survivors.now)) choices.old choices.new utilities.old utilities.new result }
 {
     let mut marks = [0u8; BYTES];

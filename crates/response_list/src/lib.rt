@@ -110,7 +110,9 @@ pub fn write_list(found: Found, out: &mut [BestResponse]) -> Result<usize, Norma
     requires { (found.number ≤ max_strategies) × (found.number ≤ length out.old) }
     ensures { (result ≡ found.answer) × (out.new ≡ over (take found.number found.records) out.old) }
 {
-    out[..found.number].copy_from_slice(&found.records[..found.number]);
+    for i in 0..found.number {
+        out[i] = found.records[i];
+    }
     found.answer
 }
 

@@ -3,16 +3,16 @@
 // in.
 #![tactic(auto)]
 
-ghost use Rattle.std.specs.Prelude.{◌≡◌, ◌+◌, ◌*◌, ◌≤◌, ◌<◌, ltb, length};
+ghost use Rattle.std.specs.Prelude.{◌≡◌, [], ◌+◌, ◌*◌, ◌<◌, ltb, length};
+ghost use Rattle.std.specs.Result.{result_unwrap_or};
 ghost use Rattle.std.proofs.Math.Option.{none};
 ghost use Rattle.refusal.specs.Told.{told, unless};
 ghost use Rattle.utility.specs.Value.{told_utility};
-ghost use Rattle.payoff_tables.specs.Limits.{max_players};
 ghost use Rattle.payoff_tables.specs.Table.{offset, stride, cell_rank};
 ghost use Rattle.payoff_tables.specs.Meaning.{Shape, Finites};
 ghost use Rattle.payoff_tables.specs.Checks.{counts_refusal, table_refusal, profile_refusal};
 ghost use Rattle.payoff_tables.specs.Answers.{counts_answer, table_answer, offset_answer, payoff_answer, profile_payoffs, part_first};
-ghost use Rattle.table.specs.Space.{space_of};
+ghost use Rattle.table.specs.Space.{space_of, space_unless};
 
 use refusal::NormalFormError;
 use utility::Utility;
@@ -76,22 +76,38 @@ pub fn table_profile_count(counts: &[usize], payoffs: &[f64]) -> Result<usize, N
 }
 
 impl StrategySpace {
-    // The space of the counts: one to a place, and 0 in the places after the last.
+    // The space of the counts: one to a place, and 0 in the places after the last. The places are
+    // gone through one by one, since a copy of an unknown length takes longer than all of them.
     fn padded(counts: &[usize]) -> StrategySpace
-        requires { length counts.now ≤ max_players }
         ensures { result ≡ space_of counts.now }
     {
         let mut places = [0usize; MAX_PLAYERS];
-        places[..counts.len()].copy_from_slice(counts);
+        for p in 0..MAX_PLAYERS {
+            if p < counts.len() {
+                places[p] = counts[p];
+            }
+        }
         StrategySpace {
             players: counts.len(),
             counts: places,
         }
     }
 
+    // The space of no players, for a caller that wants a space beside a refusal: P 0 and eight
+    // zeros.
+    pub fn none() -> StrategySpace
+        ensures { result ≡ space_of [] }
+    {
+        StrategySpace {
+            players: 0,
+            counts: [0; MAX_PLAYERS],
+        }
+    }
+
     // The space of the counts, or the first of refusals 1 to 5.
     pub fn from_counts(counts: &[usize]) -> Result<StrategySpace, NormalFormError>
-        ensures { told result ≡ unless (counts_refusal counts.now) (space_of counts.now) }
+        ensures told { told result ≡ unless (counts_refusal counts.now) (space_of counts.now) }
+        ensures space_value { result_unwrap_or result (space_of []) ≡ space_unless (counts_refusal counts.now) counts.now }
     {
         profile_count(counts)?;
         Ok(StrategySpace::padded(counts))
@@ -101,7 +117,8 @@ impl StrategySpace {
 // The checks of the Rust's `PayoffMatrix::new`: the space of a table, or the first of refusals 1 to
 // 7.
 pub fn payoff_matrix(counts: &[usize], payoffs: &[f64]) -> Result<StrategySpace, NormalFormError>
-    ensures { told result ≡ unless (table_refusal counts.now payoffs.now) (space_of counts.now) }
+    ensures told { told result ≡ unless (table_refusal counts.now payoffs.now) (space_of counts.now) }
+    ensures space_value { result_unwrap_or result (space_of []) ≡ space_unless (table_refusal counts.now payoffs.now) counts.now }
 {
     table_profile_count(counts, payoffs)?;
     Ok(StrategySpace::padded(counts))

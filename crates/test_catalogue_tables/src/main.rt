@@ -93,5 +93,7 @@ fn main(rt: HostRuntime) -> io::Result<()> {
     let without = survey(&mut tallies);
     let mut out = String::new(rt.alloc());
     tell_numbers(&tallies, &mut out)?;
-    println!(rt; "{out}none: came {without}")
+    // an output that cannot be written is told by what was printed
+    let _ = println!(rt; "{out}none: came {without}");
+    Ok(())
 }

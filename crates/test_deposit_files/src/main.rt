@@ -13,14 +13,17 @@
 // give the very file back that was read.
 #![tactic(auto)]
 
+ghost use Rattle.std.specs.Prelude.{◌≤◌, IfOk};
+ghost use Rattle.std.specs.Vec.{vec_len};
+
 use refusal::NormalFormError;
 use std::alloc::{AllocError, Global};
 use std::fs::Files;
-use std::io::{BufReader, Read};
+use std::io::{BufReader, ErrorKind, Read};
 use std::{fmt, fs, io, str};
 use table::{MAX_CELLS, MAX_PLAYERS};
-use test_lines::{Line, read_line};
-use test_print::{Element, Tell, tell_all};
+use test_lines::{Line, bits_of, read_line};
+use test_print::{Tell, tell_all};
 use words::PAYLOADS;
 
 // The room of the outputs that the files are read into, and of the bytes: more than the largest
@@ -90,7 +93,10 @@ fn first<T>(list: &[T], n: usize) -> &[T] {
 
 // Whether both have the same bits, element after element.
 fn have_same_bits(a: &[f64], b: &[f64]) -> bool {
-    a.len() == b.len() && a.iter().zip(b.iter()).all(|(x, y)| x.word() == y.word())
+    a.len() == b.len()
+        && a.iter()
+            .zip(b.iter())
+            .all(|(x, y)| bits_of(*x) == bits_of(*y))
 }
 
 // Outputs to read a file into, and bytes to write it back into.
@@ -258,38 +264,60 @@ fn tell_file(name: &str, file: &mut [u8], out: &mut String) -> Result<(), AllocE
 }
 
 // The first LENGTH bytes of a file, or all of them where there are fewer.
-fn read_file<R: Files + AllocGlobal>(rt: &R, name: &str) -> io::Result<Vec<u8>> {
+fn read_file<R: Files + AllocGlobal>(rt: &R, name: &str) -> io::Result<Vec<u8>>
+    ensures most { IfOk result (λ file. vec_len file ≤ 24620) }
+{
     let mut file = Vec::new(rt.alloc());
     fs::open(rt, name)?
         .take(LENGTH as u64)
         .read_to_end(&mut file)?;
+    // `read_to_end` does not say that it hands on the limit of `take`
+    file.truncate(LENGTH);
     Ok(file)
 }
 
-// A file by its name, or a line on standard error where it cannot be read.
+// A file by its name, or a line on standard error where it cannot be read. An output that cannot be
+// written is told by what was printed.
 fn print_file<R: Files + Print + Eprint + AllocGlobal>(rt: &R, name: &str) -> io::Result<()> {
     match read_file(rt, name) {
         Ok(mut file) => {
             let mut out = String::new(rt.alloc());
             tell_file(name, &mut file, &mut out)?;
-            rt.print(out)
+            let _ = rt.print(out);
         }
-        Err(e) => eprintln!(rt; "{name}: {e}"),
+        Err(e) if e.kind() == ErrorKind::OutOfMemory => return Err(e),
+        Err(e) => {
+            let _ = eprintln!(rt; "{name}: {e}");
+        }
     }
+    Ok(())
 }
 
-// Each file that standard input names.
+// Each file that standard input names, until the input ends or cannot be read: what came before is
+// the last name.
 fn print_files<R: Files + Input + Print + Eprint + AllocGlobal>(rt: &R) -> io::Result<()> {
     let mut input = BufReader::new(rt.alloc(), rt.reader())?;
     let mut line = Vec::new(rt.alloc());
     for _ in 0..u64::MAX {
-        match read_line(&mut input, &mut line)? {
-            Line::Whole => match str::from_utf8(&line) {
-                Ok(name) => print_file(rt, name)?,
-                Err(e) => eprintln!(rt; "a file's name: {e}")?,
-            },
-            Line::TooLong => return println!(rt; "a line that is too long"),
-            Line::End => break,
+        let is_last = match read_line(&mut input, &mut line) {
+            Ok(Line::Whole) => false,
+            Ok(Line::TooLong) => {
+                let _ = println!(rt; "a line that is too long");
+                break;
+            }
+            Ok(Line::End) => break,
+            Err(e) if e.kind() == ErrorKind::OutOfMemory => return Err(e),
+            Err(_) if line.is_empty() => break,
+            Err(_) => true,
+        };
+        match str::from_utf8(&line) {
+            Ok(name) => print_file(rt, name)?,
+            Err(e) => {
+                let _ = eprintln!(rt; "a file's name: {e}");
+            }
+        }
+        if is_last {
+            break;
         }
     }
     Ok(())
@@ -414,5 +442,6 @@ fn main(rt: HostRuntime) -> io::Result<()> {
     print_files(&rt)?;
     let mut out = String::new(rt.alloc());
     tell_large(&mut out)?;
-    rt.print(out)
+    let _ = rt.print(out);
+    Ok(())
 }

@@ -6,15 +6,21 @@ ghost use Rattle.std.specs.Vec.{vec_len};
 use crate::ReadError;
 use crate::lists::{Element, read_list};
 use std::alloc::Global;
-use std::io::{BufRead, BufReader, BufWriter, Read, Write};
+use std::io::{BufRead, BufReader, BufWriter, ErrorKind, Read, Write};
 use std::num::TryFromIntError;
 use std::{io, str};
 use table::MAX_PLAYERS;
 
 // The most bytes of a line, its end included, and the most elements of a list.
-const LINE: usize = 65536;
+pub const LINE: usize = 65536;
 
 pub const ELEMENTS: usize = 65538;
+
+// How many bytes are asked for and given back before the first line. The C library hands the memory
+// of a long list back to the system as soon as the list goes, and would fetch its pages anew for
+// the next line; of a block that was given back it learns to keep as much, and twice that of all
+// lists.
+const KEPT: usize = 4 * 8 * ELEMENTS;
 
 // The fields of a line that are not read yet, and the most elements that a list of them may have.
 #[derive(Drop)]
@@ -43,7 +49,9 @@ impl<'a> Arguments<'a> {
         Ok(field.trim_matches(' '))
     }
 
-    fn one<T: Element>(&mut self) -> Result<T, ReadError> {
+    fn one<T: Element>(&mut self) -> Result<T, ReadError>
+        ensures kept { self.new.most ≡ self.old.most }
+    {
         T::parse(self.field()?).ok_or(ReadError::Unreadable)
     }
 
@@ -54,11 +62,15 @@ impl<'a> Arguments<'a> {
         read_list(self.field()?, self.most, self.alloc)
     }
 
-    pub fn number(&mut self) -> Result<usize, ReadError> {
+    pub fn number(&mut self) -> Result<usize, ReadError>
+        ensures kept { self.new.most ≡ self.old.most }
+    {
         self.one()
     }
 
-    pub fn float(&mut self) -> Result<f64, ReadError> {
+    pub fn float(&mut self) -> Result<f64, ReadError>
+        ensures kept { self.new.most ≡ self.old.most }
+    {
         self.one()
     }
 
@@ -71,6 +83,7 @@ impl<'a> Arguments<'a> {
 
     pub fn floats(&mut self) -> Result<Vec<f64>, ReadError>
         ensures most { IfOk result (λ list. vec_len list ≤ self.old.most) }
+        ensures kept { self.new.most ≡ self.old.most }
     {
         self.list()
     }
@@ -79,6 +92,7 @@ impl<'a> Arguments<'a> {
     pub fn table(&mut self) -> Result<(Vec<usize>, Vec<f64>), ReadError>
         ensures counts { IfOk result (λ lists. vec_len lists.0 ≤ self.old.most) }
         ensures payoffs { IfOk result (λ lists. vec_len lists.1 ≤ self.old.most) }
+        ensures kept { self.new.most ≡ self.old.most }
     {
         let counts = self.numbers()?;
         let payoffs = self.floats()?;
@@ -90,9 +104,10 @@ impl<'a> Arguments<'a> {
         &mut self,
     ) -> Result<Vec<T>, ReadError>
         ensures most { IfOk result (λ list. vec_len list ≤ self.old.most) }
+        ensures kept { self.new.most ≡ self.old.most }
     {
         let list = self.numbers()?;
-        let mut narrow = Vec::new(self.alloc);
+        let mut narrow = Vec::with_capacity(self.alloc, list.len())?;
         for n in list.iter() {
             narrow.push(T::try_from(*n).ok().ok_or(ReadError::Unreadable)?)?;
         }
@@ -102,6 +117,7 @@ impl<'a> Arguments<'a> {
     // Numbers below 256.
     pub fn bytes(&mut self) -> Result<Vec<u8>, ReadError>
         ensures most { IfOk result (λ list. vec_len list ≤ self.old.most) }
+        ensures kept { self.new.most ≡ self.old.most }
     {
         self.narrow()
     }
@@ -109,12 +125,15 @@ impl<'a> Arguments<'a> {
     // Numbers below 2^32.
     pub fn words(&mut self) -> Result<Vec<u32>, ReadError>
         ensures most { IfOk result (λ list. vec_len list ≤ self.old.most) }
+        ensures kept { self.new.most ≡ self.old.most }
     {
         self.narrow()
     }
 
     // A number for each player's place.
-    pub fn eight(&mut self) -> Result<[usize; MAX_PLAYERS], ReadError> {
+    pub fn eight(&mut self) -> Result<[usize; MAX_PLAYERS], ReadError>
+        ensures kept { self.new.most ≡ self.old.most }
+    {
         let list = self.numbers()?;
         match list.as_slice().try_into() {
             Ok(places) => Ok(places),
@@ -232,8 +251,17 @@ fn is_remark(line: &[u8]) -> bool {
     line.is_empty() || line.starts_with(b"#")
 }
 
+// What is handed on of a write. Of an output that cannot be written a program says nothing: what it
+// printed is compared. Memory that ran out is an error.
+fn unless_lost(write: io::Result<()>) -> io::Result<()> {
+    match write {
+        Err(e) if e.kind() != ErrorKind::OutOfMemory => Ok(()),
+        write => write,
+    }
+}
+
 // Runs each line of standard input, but for remarks where the program has them. A line that is too
-// long ends the run.
+// long ends the run, and so does an input that cannot be read: what came before is the last line.
 fn run<R: Input + Print + AllocGlobal, F>(
     rt: &R,
     most: usize,
@@ -244,25 +272,33 @@ where
     F: FnMut(&str, &mut Arguments<'_>, &mut String) -> Result<(), ReadError>,
     requires { F.IsAlwaysCallable call }
 {
+    let _ = Vec::<u8>::with_capacity(rt.alloc(), KEPT);
     let mut input = BufReader::new(rt.alloc(), rt.reader())?;
     let mut output = BufWriter::new(rt.alloc(), io::writer(rt))?;
     let mut told = String::new(rt.alloc());
     let mut line = Vec::new(rt.alloc());
     for _ in 0..u64::MAX {
-        match read_line(&mut input, &mut line)? {
-            Line::Whole => {
-                if !(has_remarks && is_remark(&line)) {
-                    run_line(&line, most, &mut call, &mut told, &mut output)?;
-                }
-            }
-            Line::TooLong => {
-                writeln!(output, "a line that is too long")?;
+        let is_last = match read_line(&mut input, &mut line) {
+            Ok(Line::Whole) => false,
+            Ok(Line::TooLong) => {
+                unless_lost(writeln!(output, "a line that is too long"))?;
                 break;
             }
-            Line::End => break,
+            Ok(Line::End) => break,
+            Err(e) if e.kind() == ErrorKind::OutOfMemory => return Err(e),
+            Err(_) if line.is_empty() => break,
+            Err(_) => true,
+        };
+        if !(has_remarks && is_remark(&line)) {
+            unless_lost(run_line(&line, most, &mut call, &mut told, &mut output))?;
+            // before the next line may have to be waited for
+            unless_lost(output.flush())?;
+        }
+        if is_last {
+            break;
         }
     }
-    output.flush()
+    unless_lost(output.flush())
 }
 
 // Runs each line of standard input that is no remark.

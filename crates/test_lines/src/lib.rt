@@ -6,7 +6,8 @@ use std::alloc::{AllocError, AllocFailed};
 mod cases;
 mod lists;
 
-pub use cases::{Arguments, ELEMENTS, Line, read_line, run_all_lines, run_lines};
+pub use cases::{Arguments, ELEMENTS, LINE, Line, read_line, run_all_lines, run_lines};
+pub use lists::{bits_of, float_of};
 
 // Why an argument was not read: it is not what it has to be, or memory ran out.
 #[derive(Debug, Drop)]

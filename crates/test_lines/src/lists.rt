@@ -1,6 +1,7 @@
 // Lists of items, as docs/TESTING.md has them.
 
-ghost use Rattle.std.specs.Prelude.{◌≡◌, ◌+◌, ◌≤◌, OnOk, IfOk};
+ghost use Rattle.std.specs.Prelude.{◌≡◌, ◌+◌, ◌≤◌, OnOk, IfOk, from_bits, to_bits};
+ghost use Rattle.std.specs.Float.{binary64};
 ghost use Rattle.std.specs.Vec.{vec_len};
 ghost use Rattle.test_lines.specs.Room.{spoken_for};
 
@@ -45,17 +46,38 @@ impl Element for usize {
     }
 }
 
+// The f64 of 64 bits. Those of every NaN give 0.0 / 0.0.
+pub fn float_of(bits: u64) -> f64
+    ensures { result ≡ from_bits binary64 bits }
+{
+    // the exponent's field
+    if bits % 0x8000000000000000 / 0x10000000000000 != 0x7ff {
+        return f64::from_bits(bits);
+    }
+    // an infinity
+    if bits % 0x10000000000000 == 0 {
+        return f64::from_bits(bits);
+    }
+    0.0 / 0.0
+}
+
+// The bits of every NaN.
+const NAN_BITS: u64 = 0x7ff8000000000000;
+
+// The bits of an f64; those of one NaN for every NaN.
+pub fn bits_of(x: f64) -> u64
+    ensures { result ≡ to_bits binary64 x }
+{
+    if x == x { x.to_bits() } else { NAN_BITS }
+}
+
 // The float of 16 hexadecimal digits, which are no NaN's bits.
 fn float_of_bits(digits: &str) -> Option<f64> {
     if digits.len() != 16 {
         return None;
     }
-    let bits = hexadecimal(digits)?;
-    // the exponent's field is not all ones, or it is an infinity
-    if bits % 0x8000000000000000 / 0x10000000000000 != 0x7ff || bits % 0x10000000000000 == 0 {
-        return Some(f64::from_bits(bits));
-    }
-    None
+    let x = float_of(hexadecimal(digits)?);
+    if x.is_nan() { None } else { Some(x) }
 }
 
 // The float nearest to a decimal whole number.
@@ -98,27 +120,26 @@ fn push_run<T: Element>(list: &mut Vec<T>, n: usize, x: T, step: Option<T>) -> R
             }
         }
         None => {
-            for _ in 0..n {
-                list.push(x)?;
-            }
+            let len = list.len().checked_add(n).ok_or(ReadError::Unreadable)?;
+            list.resize(len, x)?;
         }
     }
     Ok(())
 }
 
-// A group that is open: how often its elements come, and those read so far.
-#[derive(Drop)]
-struct Group<T> {
+// A group that is open: how often its elements come, and the place of the first.
+#[derive(Clone, Copy)]
+struct Group {
     times: usize,
-    elements: Vec<T>,
+    first: usize,
 }
 
-// A list as far as it is read: the elements before the open group, that group, and how many more
-// elements there may be.
+// A list as far as it is read: the elements, those of the open group last, that group, and how many
+// more elements there may be.
 #[derive(Drop)]
 struct Reading<T> {
     elements: Vec<T>,
-    group: Option<Group<T>>,
+    group: Option<Group>,
     room: usize,
 }
 
@@ -133,15 +154,29 @@ impl<T: Element> Reading<T> {
         Ok(())
     }
 
+    // Takes memory for n elements, which have taken their room. It is twice what there was, where
+    // that is more, so that many short runs are not copied each time, but for no more elements than
+    // there may be.
+    fn reserve(&mut self, n: usize) -> Result<(), ReadError>
+        ensures elements { vec_len self.new.elements ≡ vec_len self.old.elements }
+        ensures room { self.new.room ≡ self.old.room }
+        ensures group { self.new.group ≡ self.old.group }
+    {
+        let len = self.elements.len();
+        if self.elements.capacity().saturating_sub(len) < n {
+            let most = self.room.saturating_add(n);
+            self.elements.reserve_exact(n.max(len.min(most)))?;
+        }
+        Ok(())
+    }
+
     // Adds n elements: x, or by a step from x on.
     fn add_run(&mut self, n: usize, x: T, step: Option<T>) -> Result<(), ReadError>
         ensures held { OnOk result (spoken_for self.new ≤ spoken_for self.old) }
     {
         self.take_room(n)?;
-        match &mut self.group {
-            Some(group) => push_run(&mut group.elements, n, x, step),
-            None => push_run(&mut self.elements, n, x, step),
-        }
+        self.reserve(n)?;
+        push_run(&mut self.elements, n, x, step)
     }
 
     // `x` or `x+s`, n times.
@@ -192,7 +227,7 @@ impl<T: Element> Reading<T> {
         }
         self.group = Some(Group {
             times,
-            elements: Vec::new(*self.elements.allocator()),
+            first: self.elements.len(),
         });
         Ok(())
     }
@@ -203,16 +238,24 @@ impl<T: Element> Reading<T> {
         ensures held { OnOk result (spoken_for self.new ≤ spoken_for self.old) }
     {
         let group = self.group.take().ok_or(ReadError::Unreadable)?;
-        let width = group.elements.len();
+        let end = self.elements.len();
+        let width = end.saturating_sub(group.first);
         if width == 0 {
             return Ok(());
         }
         match group.times.checked_sub(1) {
-            Some(more) => self.take_room(width.checked_mul(more).ok_or(ReadError::Unreadable)?)?,
-            None => self.room = self.room.saturating_add(width),
-        }
-        for _ in 0..group.times {
-            self.elements.extend_from_slice(&group.elements)?;
+            Some(more) => {
+                let rest = width.checked_mul(more).ok_or(ReadError::Unreadable)?;
+                self.take_room(rest)?;
+                self.reserve(rest)?;
+                for _ in 0..more {
+                    self.elements.extend_from_within(group.first..end)?;
+                }
+            }
+            None => {
+                self.elements.truncate(group.first);
+                self.room = self.room.saturating_add(width);
+            }
         }
         Ok(())
     }

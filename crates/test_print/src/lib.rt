@@ -2,7 +2,8 @@
 // its outputs hold, each after a space.
 #![tactic(auto)]
 
-ghost use Rattle.std.specs.Prelude.{OnOk};
+ghost use Rattle.std.specs.Prelude.{◌≡◌, OnOk, to_bits};
+ghost use Rattle.std.specs.Float.{binary64};
 ghost use Rattle.std.specs.String.{string_bytes};
 ghost use Rattle.test_print.specs.Told.{IsAdded};
 
@@ -48,7 +49,9 @@ impl Tell for usize {
 }
 
 impl Element for usize {
-    fn word(self) -> usize {
+    fn word(self) -> usize
+        ensures { result ≡ self }
+    {
         self
     }
 }
@@ -60,7 +63,9 @@ impl Tell for u8 {
 }
 
 impl Element for u8 {
-    fn word(self) -> usize {
+    fn word(self) -> usize
+        ensures { result ≡ self }
+    {
         usize::from(self)
     }
 }
@@ -72,7 +77,9 @@ impl Tell for u32 {
 }
 
 impl Element for u32 {
-    fn word(self) -> usize {
+    fn word(self) -> usize
+        ensures { result ≡ self }
+    {
         self as usize
     }
 }
@@ -90,7 +97,9 @@ impl Tell for f64 {
 
 // Its bits; those of one NaN for every NaN.
 impl Element for f64 {
-    fn word(self) -> usize {
+    fn word(self) -> usize
+        ensures { result ≡ to_bits binary64 self }
+    {
         if self.is_nan() {
             0x7ff8000000000000
         } else {

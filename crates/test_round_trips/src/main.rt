@@ -104,5 +104,7 @@ fn main(rt: HostRuntime) -> io::Result<()> {
     let mut out = String::new(rt.alloc());
     tell_dilemma(&mut out)?;
     tell_both_zeros(&mut out)?;
-    rt.print(out)
+    // an output that cannot be written is told by what was printed
+    let _ = rt.print(out);
+    Ok(())
 }

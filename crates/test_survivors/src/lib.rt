@@ -2,14 +2,14 @@
 // argument of a line.
 #![tactic(auto)]
 
-ghost use Rattle.std.specs.Prelude.{OnOk};
+ghost use Rattle.std.specs.Prelude.{◌≡◌, OnOk};
 ghost use Rattle.std.specs.String.{string_bytes};
 ghost use Rattle.test_print.specs.Told.{IsAdded};
 
 use std::alloc::AllocError;
 use survivor_calls::StrikeResult;
 use survivors::{FreshResult, Survivors};
-use table::{MAX_MARKS, MAX_STRATEGIES};
+use table::{MAX_MARKS, MAX_PLAYERS, MAX_STRATEGIES};
 use test_lines::{Arguments, ReadError};
 use test_print::{Tell, tell_all};
 
@@ -65,28 +65,34 @@ pub fn tell_strike(struck: StrikeResult, out: &mut String) -> Result<(), AllocEr
     tell_survivors(struck.survivors, out)
 }
 
-// A mark for each place, of numbers that are each 0 or 1.
-fn read_marks(arguments: &mut Arguments<'_>) -> Result<[bool; MAX_MARKS], ReadError> {
+// A number for each place's mark, 0 or 1.
+fn read_marks(arguments: &mut Arguments<'_>) -> Result<Vec<usize>, ReadError> {
     let list = arguments.numbers()?;
-    if list.len() != MAX_MARKS {
+    if list.len() != MAX_MARKS || list.iter().any(|n| 1 < *n) {
         return Err(ReadError::Unreadable);
     }
+    Ok(list)
+}
+
+// The survivors with P, these counts and these marks, each of which is a number that is not 0.
+pub fn survivors_of(players: usize, counts: [usize; MAX_PLAYERS], list: &[usize]) -> Survivors
+    ensures { (result.players ≡ players) × (result.counts ≡ counts) }
+{
     let mut marks = [false; MAX_MARKS];
     for (mark, n) in marks.iter_mut().zip(list.iter()) {
-        *mark = match n {
-            0 => false,
-            1 => true,
-            _ => return Err(ReadError::Unreadable),
-        };
+        *mark = *n != 0;
     }
-    Ok(marks)
+    Survivors {
+        players,
+        counts,
+        marks,
+    }
 }
 
 // Survivors: P, the eight counts and the marks, whatever they are.
 pub fn read_survivors(arguments: &mut Arguments<'_>) -> Result<Survivors, ReadError> {
-    Ok(Survivors {
-        players: arguments.number()?,
-        counts: arguments.eight()?,
-        marks: read_marks(arguments)?,
-    })
+    let players = arguments.number()?;
+    let counts = arguments.eight()?;
+    let marks = read_marks(arguments)?;
+    Ok(survivors_of(players, counts, &marks))
 }

@@ -40,16 +40,13 @@ fn tell_comparison(a: f64, b: f64, out: &mut String) -> Result<(), AllocError> {
 
 // ---- tables and profiles
 
-// Whether there is a space, and its fields, which are told as 0 where there is none.
+// Whether there is a space, and its fields, or those of the space beside a refusal.
 fn tell_space(
     r: Result<StrategySpace, NormalFormError>,
     out: &mut String,
 ) -> Result<(), AllocError> {
     r.map(|_| ()).tell(out)?;
-    let space = r.unwrap_or(StrategySpace {
-        players: 0,
-        counts: [0; MAX_PLAYERS],
-    });
+    let space = r.unwrap_or(StrategySpace::none());
     out.push_str(", players")?;
     space.players.tell(out)?;
     out.push_str(", counts")?;

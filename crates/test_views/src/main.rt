@@ -54,16 +54,13 @@ fn tell_list(list: ResponseList, out: &mut String) -> Result<(), AllocError> {
 
 // ---- views
 
-// Whether there is a view, and its space, which is told as 0 where there is none.
+// Whether there is a view, and its space, or the space beside a refusal.
 fn tell_space(
     made: Result<StrategySpace, NormalFormError>,
     out: &mut String,
 ) -> Result<(), AllocError> {
     made.map(|_| ()).tell(out)?;
-    let space = made.unwrap_or(StrategySpace {
-        players: 0,
-        counts: [0; MAX_PLAYERS],
-    });
+    let space = made.unwrap_or(StrategySpace::none());
     out.push_str(", P")?;
     space.players.tell(out)?;
     out.push_str(", counts")?;

@@ -2,24 +2,24 @@
 // the view apart, and leaves the rest to a function with plain parameters (`view_fields`).
 #![tactic(auto)]
 
-ghost use Rattle.std.specs.Prelude.{◌≡◌, length, IfOk};
+ghost use Rattle.std.specs.Prelude.{◌≡◌, [], length, IfOk};
 ghost use Rattle.game.specs.Game.{strategy as named};
 ghost use Rattle.refusal.specs.Told.{told, told_of, unless, unless_refused};
 ghost use Rattle.written_lists.specs.Outputs.{over};
 ghost use Rattle.payoff_tables.specs.Checks.{table_refusal};
-ghost use Rattle.table.specs.Space.{space_of};
+ghost use Rattle.table.specs.Space.{space_of, space_unless};
 ghost use Rattle.equilibria.specs.Answers.{is_equilibrium_answer, equilibria_answer, equilibria_choices, equilibria_utilities};
 ghost use Rattle.dominance.specs.Answers.{strategies_of, dominators_of, dominated_answer, dominated_written};
 ghost use Rattle.survivors.specs.Survivors.{fresh_of, no_survivors};
 ghost use Rattle.strikes.specs.Answers.{strike_answer, strike_leaves};
-ghost use Rattle.view.specs.Matrix.{space_in, counts_of};
+ghost use Rattle.view.specs.Matrix.{space_in, space_beside, counts_of};
 ghost use Rattle.response_list.specs.Responses.{records_answer, records_written};
 
 use refusal::{Listed, NormalFormError};
 use response_list::BestResponse;
 use survivor_calls::StrikeResult;
 use survivors::{FreshResult, Survivors};
-use table::MAX_PLAYERS;
+use table::{MAX_PLAYERS, StrategySpace};
 
 // A table that holds its payoffs by reference, beside P and the counts. Its fields are whatever its
 // holder put there: each call checks them as the plain call does, on the payoffs and the first P of
@@ -32,10 +32,27 @@ pub struct PayoffMatrix<'a> {
 }
 
 impl<'a> PayoffMatrix<'a> {
+    // The view of no table, for a caller that wants a view beside a refusal: the payoffs, P 0 and
+    // counts 0, so that every call on it gives 1.
+    pub fn none(payoffs: &'a [f64]) -> PayoffMatrix<'a>
+        ensures payoffs { result.payoffs ≡ payoffs.entry }
+        ensures space { space_in result ≡ space_of [] }
+    {
+        let space = StrategySpace::none();
+        let players = space.players;
+        let counts = space.counts;
+        PayoffMatrix {
+            payoffs,
+            players,
+            counts,
+        }
+    }
+
     // The view of a table, or the first of refusals 1 to 7.
     pub fn new(counts: &[usize], payoffs: &'a [f64]) -> Result<PayoffMatrix<'a>, NormalFormError>
         ensures told { told_of (λ m. space_in m) (told result) ≡ unless (table_refusal counts.now payoffs.now) (space_of counts.now) }
         ensures payoffs { IfOk result (λ m. m.payoffs ≡ payoffs.entry) }
+        ensures space_value { space_beside result ≡ space_unless (table_refusal counts.now payoffs.now) counts.now }
     {
         let space = table::payoff_matrix(counts, payoffs)?;
         // by a local: stored straight, a field that is an array gets no proof

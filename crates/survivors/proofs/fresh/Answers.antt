@@ -15,7 +15,7 @@ pub returns-in-Ok : goal.returns-in-Ok
 unfolding space_of
 returns-in-Ok c =
     let cs = c.args.counts.now in
-    let t = told_values (table_refusal cs c.args.payoffs.now) (space_of cs) c.in-Ok.space c.in-Ok.ensures in
+    let t = told_values (table_refusal cs c.args.payoffs.now) (space_of cs) c.in-Ok.space c.in-Ok.ensures.told in
     let (a, b, d) = c.all_marked.ensures in
     let is = fresh_is cs c.all_marked.result ((table_law cs c.args.payoffs.now).0 t.0).shape.few
     (a ∙ ap (λ w. w.players) t.1) (b ∙ ap (λ w. w.counts) t.1) (d ∙ ap (λ w. all_marks w.counts) t.1) in
@@ -23,5 +23,5 @@ returns-in-Ok c =
 
 pub returns-in-Err : goal.returns-in-Err
 returns-in-Err c =
-    let t = told_refused (table_refusal c.args.counts.now c.args.payoffs.now) _ _ c.in-Err.ensures in
+    let t = told_refused (table_refusal c.args.counts.now c.args.payoffs.now) _ _ c.in-Err.ensures.told in
     rw t.1 record { answer_value = ap refused t.2; survivors_value = c.none.ensures }

@@ -5,6 +5,3 @@ use Rattle.test_lines.proofs.lists.push_run.Given as goal
 
 abbrev pub invariant-loop-place : goal.invariant-loop-place
 invariant-loop-place g l = vec_len l.list ≡ vec_len l.initial.list + l.place
-
-abbrev pub invariant-loop : goal.invariant-loop
-invariant-loop g l = vec_len l.list ≡ vec_len l.initial.list + l.counter
