@@ -23,7 +23,7 @@ use std::io::{BufReader, ErrorKind, Read};
 use std::{fmt, fs, io, str};
 use table::{MAX_CELLS, MAX_PLAYERS};
 use test_lines::{Line, bits_of, read_line};
-use test_print::{Tell, tell_all};
+use test_print::{Tell, print_lines, tell_all};
 use words::PAYLOADS;
 
 // The room of the outputs that the files are read into, and of the bytes: more than the largest
@@ -276,14 +276,13 @@ fn read_file<R: Files + AllocGlobal>(rt: &R, name: &str) -> io::Result<Vec<u8>>
     Ok(file)
 }
 
-// A file by its name, or a line on standard error where it cannot be read. An output that cannot be
-// written is told by what was printed.
+// A file by its name, or a line on standard error where it cannot be read.
 fn print_file<R: Files + Print + Eprint + AllocGlobal>(rt: &R, name: &str) -> io::Result<()> {
     match read_file(rt, name) {
         Ok(mut file) => {
             let mut out = String::new(rt.alloc());
             tell_file(name, &mut file, &mut out)?;
-            let _ = rt.print(out);
+            print_lines(&out, rt)?;
         }
         Err(e) if e.kind() == ErrorKind::OutOfMemory => return Err(e),
         Err(e) => {
@@ -302,7 +301,7 @@ fn print_files<R: Files + Input + Print + Eprint + AllocGlobal>(rt: &R) -> io::R
         let is_last = match read_line(&mut input, &mut line) {
             Ok(Line::Whole) => false,
             Ok(Line::TooLong) => {
-                let _ = println!(rt; "a line that is too long");
+                print_lines("a line that is too long\n", rt)?;
                 break;
             }
             Ok(Line::End) => break,
@@ -442,6 +441,5 @@ fn main(rt: HostRuntime) -> io::Result<()> {
     print_files(&rt)?;
     let mut out = String::new(rt.alloc());
     tell_large(&mut out)?;
-    let _ = rt.print(out);
-    Ok(())
+    print_lines(&out, &rt)
 }

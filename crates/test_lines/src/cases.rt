@@ -1,11 +1,12 @@
 // The cases of standard input: each line's name, its call and the call's arguments.
 
-ghost use Rattle.std.specs.Prelude.{◌≡◌, ◌≤◌, ◌↔◌, IfOk, IsOk, IsNone};
+ghost use Rattle.std.specs.Prelude.{◌≡◌, ◌≤◌, ◌↔◌, IfOk, IfErr, IsOk, IsNone};
+ghost use Rattle.std.specs.IoError.{error_kind};
 ghost use Rattle.std.specs.Vec.{vec_len};
 
 use crate::ReadError;
 use crate::lists::{Element, read_list};
-use std::alloc::Global;
+use std::alloc::{AllocError, Global};
 use std::io::{BufRead, BufReader, BufWriter, ErrorKind, Read, Write};
 use std::num::TryFromIntError;
 use std::{io, str};
@@ -21,6 +22,9 @@ pub const ELEMENTS: usize = 65538;
 // the next line; of a block that was given back it learns to keep as much, and twice that of all
 // lists.
 const KEPT: usize = 4 * 8 * ELEMENTS;
+
+// The most bytes that are written at once, so that the output's buffer has room for a few of them.
+const PIECE: usize = 1024;
 
 // The fields of a line that are not read yet, and the most elements that a list of them may have.
 #[derive(Drop)]
@@ -195,14 +199,16 @@ where
     call(field, &mut arguments, told)
 }
 
-// Writes a line's name and what its call tells.
+// Writes a line's name and what its call tells. A piece for which there is no room, since what came
+// before it cannot be written, is tried once more. Of an output that cannot be written a program says
+// nothing: what it printed is compared.
 fn run_line<W: Write, F>(
     line: &[u8],
     most: usize,
     call: &mut F,
     told: &mut String,
     output: &mut W,
-) -> io::Result<()>
+) -> Result<(), AllocError>
 where
     F: FnMut(&str, &mut Arguments<'_>, &mut String) -> Result<(), ReadError>,
     requires { F.IsAlwaysCallable call.old }
@@ -216,10 +222,16 @@ where
             told.clear();
             told.push_str(" cannot be read")?;
         }
-        Err(ReadError::Memory(e)) => return Err(io::Error::from(e)),
+        Err(ReadError::Memory(e)) => return Err(e),
     }
-    output.write_all(name)?;
-    writeln!(output, ":{told}")
+    for part in [name, b":", told.as_bytes(), b"\n"] {
+        for piece in part.chunks(PIECE) {
+            if output.write_all(piece).is_err() {
+                let _ = output.write_all(piece);
+            }
+        }
+    }
+    Ok(())
 }
 
 // What was read of the input: a whole line, the start of a line that is too long, or nothing, since it
@@ -251,17 +263,9 @@ fn is_remark(line: &[u8]) -> bool {
     line.is_empty() || line.starts_with(b"#")
 }
 
-// What is handed on of a write. Of an output that cannot be written a program says nothing: what it
-// printed is compared. Memory that ran out is an error.
-fn unless_lost(write: io::Result<()>) -> io::Result<()> {
-    match write {
-        Err(e) if e.kind() != ErrorKind::OutOfMemory => Ok(()),
-        write => write,
-    }
-}
-
 // Runs each line of standard input, but for remarks where the program has them. A line that is too
 // long ends the run, and so does an input that cannot be read: what came before is the last line.
+// Memory that runs out is the only error.
 fn run<R: Input + Print + AllocGlobal, F>(
     rt: &R,
     most: usize,
@@ -271,6 +275,7 @@ fn run<R: Input + Print + AllocGlobal, F>(
 where
     F: FnMut(&str, &mut Arguments<'_>, &mut String) -> Result<(), ReadError>,
     requires { F.IsAlwaysCallable call }
+    ensures memory { IfErr result (λ e. error_kind e ≡ ErrorKind.OutOfMemory) }
 {
     let _ = Vec::<u8>::with_capacity(rt.alloc(), KEPT);
     let mut input = BufReader::new(rt.alloc(), rt.reader())?;
@@ -281,7 +286,7 @@ where
         let is_last = match read_line(&mut input, &mut line) {
             Ok(Line::Whole) => false,
             Ok(Line::TooLong) => {
-                unless_lost(writeln!(output, "a line that is too long"))?;
+                let _ = writeln!(output, "a line that is too long");
                 break;
             }
             Ok(Line::End) => break,
@@ -290,27 +295,30 @@ where
             Err(_) => true,
         };
         if !(has_remarks && is_remark(&line)) {
-            unless_lost(run_line(&line, most, &mut call, &mut told, &mut output))?;
+            run_line(&line, most, &mut call, &mut told, &mut output)?;
             // before the next line may have to be waited for
-            unless_lost(output.flush())?;
+            let _ = output.flush();
         }
         if is_last {
             break;
         }
     }
-    unless_lost(output.flush())
+    let _ = output.flush();
+    Ok(())
 }
 
-// Runs each line of standard input that is no remark.
+// Runs each line of standard input that is no remark. Memory that runs out is the only error.
 pub fn run_lines<R: Input + Print + AllocGlobal, F>(rt: &R, most: usize, call: F) -> io::Result<()>
 where
     F: FnMut(&str, &mut Arguments<'_>, &mut String) -> Result<(), ReadError>,
     requires { F.IsAlwaysCallable call }
+    ensures memory { IfErr result (λ e. error_kind e ≡ ErrorKind.OutOfMemory) }
 {
     run(rt, most, true, call)
 }
 
-// Runs each line of standard input: of a program that has no remarks.
+// Runs each line of standard input: of a program that has no remarks. Memory that runs out is the only
+// error.
 pub fn run_all_lines<R: Input + Print + AllocGlobal, F>(
     rt: &R,
     most: usize,
@@ -319,6 +327,7 @@ pub fn run_all_lines<R: Input + Print + AllocGlobal, F>(
 where
     F: FnMut(&str, &mut Arguments<'_>, &mut String) -> Result<(), ReadError>,
     requires { F.IsAlwaysCallable call }
+    ensures memory { IfErr result (λ e. error_kind e ≡ ErrorKind.OutOfMemory) }
 {
     run(rt, most, false, call)
 }

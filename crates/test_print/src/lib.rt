@@ -2,13 +2,16 @@
 // its outputs hold, each after a space.
 #![tactic(auto)]
 
-ghost use Rattle.std.specs.Prelude.{◌≡◌, OnOk, to_bits};
+ghost use Rattle.std.specs.Prelude.{◌≡◌, OnOk, IfErr, to_bits};
 ghost use Rattle.std.specs.Float.{binary64};
+ghost use Rattle.std.specs.IoError.{error_kind};
 ghost use Rattle.std.specs.String.{string_bytes};
 ghost use Rattle.test_print.specs.Told.{IsAdded};
 
 use refusal::{Listed, NormalFormError};
 use std::alloc::AllocError;
+use std::io;
+use std::io::{BufWriter, ErrorKind, Write};
 
 // The most elements of an output that is printed whole.
 const WHOLE: usize = 128;
@@ -202,4 +205,19 @@ pub fn tell_output<T: Element>(list: &[T], out: &mut String) -> Result<(), Alloc
     out.push_str(" ..")?;
     tell_all(&list[list.len() - LAST..], out)?;
     tell_sums(list, out)
+}
+
+// Prints each line of the text by itself. One that cannot be written is tried again with the next
+// one. Of an output that cannot be written at all a program says nothing: what it printed is
+// compared. Memory that runs out is the only error.
+pub fn print_lines<R: Print + AllocGlobal>(text: &str, rt: &R) -> io::Result<()>
+    ensures memory { IfErr result (λ e. error_kind e ≡ ErrorKind.OutOfMemory) }
+{
+    let room = text.len().saturating_add(1);
+    let mut output = BufWriter::with_capacity(rt.alloc(), room, io::writer(rt))?;
+    for line in text.split_inclusive('\n') {
+        let _ = output.write_all(line.as_bytes());
+        let _ = output.flush();
+    }
+    Ok(())
 }

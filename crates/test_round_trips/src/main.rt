@@ -13,7 +13,7 @@ ghost use Rattle.test_round_trips.specs.RoundTrips.{written_read, read_written};
 use refusal::NormalFormError;
 use std::alloc::AllocError;
 use std::io;
-use test_print::{Tell, tell_all};
+use test_print::{Tell, print_lines, tell_all};
 
 // A call of `write`, and then one of `read` on what it wrote: the table comes back.
 fn write_read(
@@ -104,7 +104,5 @@ fn main(rt: HostRuntime) -> io::Result<()> {
     let mut out = String::new(rt.alloc());
     tell_dilemma(&mut out)?;
     tell_both_zeros(&mut out)?;
-    // an output that cannot be written is told by what was printed
-    let _ = rt.print(out);
-    Ok(())
+    print_lines(&out, &rt)
 }

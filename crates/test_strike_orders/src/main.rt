@@ -15,6 +15,7 @@ use std::alloc::{AllocError, Global};
 use std::io;
 use survivors::Survivors;
 use table::{MAX_PLAYERS, MAX_STRATEGIES};
+use test_print::print_lines;
 
 const TABLES: usize = 1000;
 
@@ -222,22 +223,22 @@ impl Tally {
         }
     }
 
-    fn print(&self, rt: &impl Print) -> io::Result<()> {
+    fn tell(&self, out: &mut String) -> Result<(), AllocError> {
         for table in self.differing.iter() {
-            println!(rt; "table {table} differs")?;
+            writeln!(out, "table {table} differs")?;
         }
         let differences = self.other_refusals.saturating_add(self.differing.len());
-        println!(rt; "tables {}", self.tables)?;
-        println!(rt; "orders {}", self.orders)?;
-        println!(rt; "accepted {}", self.accepted)?;
-        println!(rt; "their dominators, summed {}", self.dominators)?;
-        println!(rt; "refused 8, {}", self.no_player)?;
-        println!(rt; "refused 14, {}", self.no_strategy)?;
-        println!(rt; "refused 15, {}", self.not_dominated)?;
-        println!(rt; "equilibria compared {}", self.equilibria)?;
-        println!(rt; "tables in which something was struck {}", self.struck)?;
-        println!(rt; "of several players {}", self.several)?;
-        println!(rt; "differences {differences}")
+        writeln!(out, "tables {}", self.tables)?;
+        writeln!(out, "orders {}", self.orders)?;
+        writeln!(out, "accepted {}", self.accepted)?;
+        writeln!(out, "their dominators, summed {}", self.dominators)?;
+        writeln!(out, "refused 8, {}", self.no_player)?;
+        writeln!(out, "refused 14, {}", self.no_strategy)?;
+        writeln!(out, "refused 15, {}", self.not_dominated)?;
+        writeln!(out, "equilibria compared {}", self.equilibria)?;
+        writeln!(out, "tables in which something was struck {}", self.struck)?;
+        writeln!(out, "of several players {}", self.several)?;
+        writeln!(out, "differences {differences}")
     }
 }
 
@@ -551,7 +552,7 @@ fn main(rt: HostRuntime) -> io::Result<()> {
     for table in 0..TABLES {
         x = run_table(table, x, &mut tally, rt.alloc())?;
     }
-    // an output that cannot be written is told by what was printed
-    let _ = tally.print(&rt);
-    Ok(())
+    let mut out = String::new(rt.alloc());
+    tally.tell(&mut out)?;
+    print_lines(&out, &rt)
 }
