@@ -23,7 +23,7 @@ pub const ELEMENTS: usize = 65538;
 // lists.
 const KEPT: usize = 4 * 8 * ELEMENTS;
 
-// The most bytes that are written at once, so that the output's buffer has room for a few of them.
+// The most bytes that go to the output's buffer at once, which has room for eight times as many.
 const PIECE: usize = 1024;
 
 // The fields of a line that are not read yet, and the most elements that a list of them may have.
@@ -200,8 +200,8 @@ where
 }
 
 // Writes a line's name and what its call tells. A piece for which there is no room, since what came
-// before it cannot be written, is tried once more. Of an output that cannot be written a program says
-// nothing: what it printed is compared.
+// before it cannot be written, is tried once more. Of an output that cannot be written a program
+// says nothing: what it printed is compared.
 fn run_line<W: Write, F>(
     line: &[u8],
     most: usize,
@@ -234,8 +234,8 @@ where
     Ok(())
 }
 
-// What was read of the input: a whole line, the start of a line that is too long, or nothing, since it
-// ended.
+// What was read of the input: a whole line, the start of a line that is too long, or nothing, since
+// it ended.
 pub enum Line {
     Whole,
     TooLong,
@@ -317,8 +317,8 @@ where
     run(rt, most, true, call)
 }
 
-// Runs each line of standard input: of a program that has no remarks. Memory that runs out is the only
-// error.
+// Runs each line of standard input: of a program that has no remarks. Memory that runs out is the
+// only error.
 pub fn run_all_lines<R: Input + Print + AllocGlobal, F>(
     rt: &R,
     most: usize,
